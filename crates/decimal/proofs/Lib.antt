@@ -1,0 +1,5 @@
+pub mod Laws
+pub mod Spelt
+pub mod Complete
+pub mod Sound
+pub mod Answer

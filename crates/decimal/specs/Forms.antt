@@ -1,0 +1,26 @@
+-- The seven forms in use: how wide each is, and what sort of number it holds (document 01, "Written numbers"; 002 for the notation). Assumes nothing.
+use Prim.Native.Nat.{ℕ}
+use Rattle.decimal.specs.declared.Form.{Form}
+use Rattle.decimal.specs.declared.Form.the-variants.{I4, I6, I8, I16, F8d3, F16d7, E20d13}
+use Rattle.decimal.specs.declared.Sort.{Sort}
+use Rattle.decimal.specs.declared.Sort.the-variants.{Whole, Fixed, Expo}
+
+-- how many bytes a field of the form has
+abbrev pub widthOf : Form → ℕ
+widthOf I4 = 4
+widthOf I6 = 6
+widthOf I8 = 8
+widthOf I16 = 16
+widthOf F8d3 = 8
+widthOf F16d7 = 16
+widthOf E20d13 = 20
+
+-- whether it is whole, has places, or has an exponent too
+abbrev pub sortOf : Form → Sort
+sortOf I4 = Whole
+sortOf I6 = Whole
+sortOf I8 = Whole
+sortOf I16 = Whole
+sortOf F8d3 = Fixed 3
+sortOf F16d7 = Fixed 7
+sortOf E20d13 = Expo 13

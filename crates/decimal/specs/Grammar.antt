@@ -1,0 +1,74 @@
+-- How a number is written in a field, and what it says (document 01, "Written numbers"). This file and `Forms` are what a reader of the
+-- numbers must believe. It says nothing of how a field is read: `proofs/Sound` and `proofs/Complete` show that the reader finds exactly this.
+-- Assumes nothing.
+use Prim.Native.Nat.{ℕ, _+_, _-_, _*_, _≤_}
+use mathlib.Core.Path.{_≡_}
+use mathlib.Core.List.{List, [], _∷_, _++_}
+use mathlib.Core.Bool.{Bool, true, false}
+use lib.ListN.{length, replicate}
+use lib.IntN.{ℤ, pos, negℤ}
+use Rattle.decimal.specs.Forms.{widthOf, sortOf}
+use Rattle.decimal.specs.declared.Form.{Form}
+use Rattle.decimal.specs.declared.Sort.{Sort}
+use Rattle.decimal.specs.declared.Sort.the-variants.{Whole, Fixed, Expo}
+use Rattle.decimal.specs.declared.Written.{Written}
+use Rattle.decimal.specs.declared.Written.the-variants.{Number, Blank, Bad}
+
+-- every byte is a digit, `0` to `9`
+abbrev pub Numeral : List ℕ → Type 0
+Numeral [] = Unit {0}
+Numeral (c ∷ cs) = (48 ≤ c) × (c ≤ 57) × Numeral cs
+
+-- the number that digits say behind a
+abbrev pub after : ℕ → List ℕ → ℕ
+after a [] = a
+after a (c ∷ cs) = after (a * 10 + (c - 48)) cs
+
+pub data Sign : Type 0 where
+  plus minus : Sign
+
+-- `+` or `-`
+abbrev pub mark : Sign → ℕ
+mark plus = 43
+mark minus = 45
+
+abbrev pub negative : Sign → Bool
+negative plus = false
+negative minus = true
+
+-- a sign or none, which touches what follows: its bytes, and whether it is a minus
+pub data Lead : List ℕ → Bool → Type 0 where
+  bare : Lead [] false
+  with : (g : Sign) → Lead (mark g ∷ []) (negative g)
+
+-- the minus is applied to the digits; minus zero is 0
+abbrev pub signedOf : Bool → ℕ → ℤ
+signedOf true n = negℤ (pos n)
+signedOf false n = pos n
+
+-- Iw: blanks, optional sign, one or more digits to the field's end
+pub data WholeNumber : List ℕ → ℤ → Type 0 where
+  whole : (b : ℕ) {g : List ℕ} {s : Bool} (ds : List ℕ) → Lead g s → Numeral ds → 1 ≤ length ds
+      → WholeNumber (replicate b 32 ++ (g ++ ds)) (signedOf s (after 0 ds))
+
+-- Fw.d: blanks, optional sign, any number of digits, a point, exactly d digits, end; the number is in units of the last written place
+pub data PointNumber (d : ℕ) : List ℕ → ℤ → Type 0 where
+  point : (b : ℕ) {g : List ℕ} {s : Bool} (ws ps : List ℕ) → Lead g s → Numeral ws → Numeral ps → length ps ≡ d
+      → PointNumber d (replicate b 32 ++ (g ++ (ws ++ 46 ∷ ps))) (signedOf s (after 0 (ws ++ ps)))
+
+-- a well-written field, and what it says. All blank is "blank". E: as F, then `E`, a sign, two digits
+pub data Good : Sort → List ℕ → Written → Type 0 where
+  blank : (k : Sort) (n : ℕ) → Good k (replicate n 32) Blank
+  whole : {bs : List ℕ} {m : ℤ} → WholeNumber bs m → Good Whole bs (Number m (pos 0))
+  fixed : {d : ℕ} {bs : List ℕ} {m : ℤ} → PointNumber d bs m → Good (Fixed d) bs (Number m (pos 0))
+  expo : {d : ℕ} {bs : List ℕ} {m : ℤ} → PointNumber d bs m → (g : Sign) (ds : List ℕ) → Numeral ds → length ds ≡ 2
+      → Good (Expo d) (bs ++ 69 ∷ (mark g ∷ ds)) (Number m (signedOf (negative g) (after 0 ds)))
+
+-- a well-written field of a form: as many bytes as the form is wide
+abbrev pub Field : Form → List ℕ → Written → Type 0
+Field k bs r = (length bs ≡ widthOf k) × Good (sortOf k) bs r
+
+-- what bytes say: what the well-written field with these bytes says, or, where there is none, that they are badly written
+pub data Says (k : Form) (bs : List ℕ) : Written → Type 0 where
+  well : {r : Written} → Field k bs r → Says k bs r
+  badly : ((r : Written) → Field k bs r → ⊥) → Says k bs Bad

@@ -1,0 +1,38 @@
+-- What a number field at a place of some bytes says, and that answer in document 01's words. Assumes nothing.
+use Prim.Native.Nat.{ℕ, _+_}
+use mathlib.Core.List.{List}
+use lib.Dec.{ltb}
+use lib.ListN.{length, take, drop}
+use Rattle.words.specs.Tests.{pick}
+use Rattle.words.specs.Answer.{Answer, valued, bare, blank, refusedAs}
+use Rattle.decimal.specs.Forms.{widthOf}
+use Rattle.decimal.specs.Scan.{written}
+use Rattle.decimal.specs.declared.Form.{Form}
+use Rattle.decimal.specs.declared.Written.{Written}
+use Rattle.decimal.specs.declared.Written.the-variants.{Number, Blank as Blank′, Bad}
+use Rattle.fields.specs.declared.Field.{Field}
+use Rattle.fields.specs.declared.Field.the-variants.{Value, Blank, Refused}
+
+-- document 01's word and numbers for each case
+abbrev pub fieldAs : Field → Answer
+fieldAs (Value m e) = valued m e
+fieldAs Blank = bare blank
+fieldAs (Refused r) = refusedAs r
+
+-- a refusal of a field: ordinal 0
+abbrev pub refuse : ℕ → ℕ → Field
+refuse n at = Refused (record { number = n; «record» = 0; place = at })
+
+-- badly written is refusal 6 at the field's first byte
+abbrev pub fromWritten : ℕ → Written → Field
+fromWritten at (Number m e) = Value m e
+fromWritten at Blank′ = Blank
+fromWritten at Bad = refuse 6 at
+
+-- the bytes of the field of a form at a place
+abbrev pub fieldBytes : List ℕ → ℕ → Form → List ℕ
+fieldBytes b at k = take (widthOf k) (drop at b)
+
+-- what stands there: 2 where the bytes end before the field does, else what is written
+unfoldable pub fieldAt : List ℕ → ℕ → Form → Field
+fieldAt b at k = pick (ltb (length b) (at + widthOf k)) (refuse 2 0) (fromWritten at (written k (fieldBytes b at k)))

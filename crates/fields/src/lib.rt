@@ -1,0 +1,136 @@
+// Number fields of a record: what stands at a place, and the thirteen listed fields by their number
+// (document 01, "Listed fields"). A record's header is not judged here, and places count from the
+// first of the bytes handed over.
+use decimal::Form;
+use decimal::Written;
+use words::Refusal;
+ghost use mathlib.Core.Path.{_≡_};
+ghost use Prim.Native.Nat.{_<_};
+ghost use Rattle.fields.specs.Field.{fieldAt, fromWritten, refuse};
+ghost use Rattle.fields.specs.Listed.{listed, listedField};
+
+// What a number field says: one signed whole number of units in the last written place with its
+// exponent (0 for I and F), blank, or a refusal.
+pub enum Field {
+    Value(i64, i64),
+    Blank,
+    Refused(Refusal),
+}
+
+// A listed field: its first byte as document 01 counts, from 1, and its form.
+pub struct Listed {
+    pub first: usize,
+    pub form: Form,
+}
+
+const LISTED: [Listed; 13] = [
+    Listed {
+        first: 477,
+        form: Form::F8d3,
+    },
+    Listed {
+        first: 711,
+        form: Form::F16d7,
+    },
+    Listed {
+        first: 743,
+        form: Form::F16d7,
+    },
+    Listed {
+        first: 935,
+        form: Form::F16d7,
+    },
+    Listed {
+        first: 1887,
+        form: Form::E20d13,
+    },
+    Listed {
+        first: 1907,
+        form: Form::E20d13,
+    },
+    Listed {
+        first: 1927,
+        form: Form::E20d13,
+    },
+    Listed {
+        first: 1947,
+        form: Form::E20d13,
+    },
+    Listed {
+        first: 1967,
+        form: Form::E20d13,
+    },
+    Listed {
+        first: 1987,
+        form: Form::E20d13,
+    },
+    Listed {
+        first: 61,
+        form: Form::I16,
+    },
+    Listed {
+        first: 77,
+        form: Form::I16,
+    },
+    Listed {
+        first: 93,
+        form: Form::F16d7,
+    },
+];
+
+// A field's refusal names no record: ordinal 0.
+fn refused(number: u64, place: u64) -> Field
+    ensures { λ r. ⌜ r ≡ refuse number place ⌝ }
+{
+    Field::Refused(Refusal {
+        number,
+        record: 0,
+        place,
+    })
+}
+
+// Badly written is refusal 6 at the field's first byte.
+fn from_written(w: Written, at: usize) -> Field
+    ensures { λ r. ⌜ r ≡ fromWritten at w ⌝ }
+{
+    match w {
+        Written::Number(m, e) => Field::Value(m, e),
+        Written::Blank => Field::Blank,
+        Written::Bad => refused(6, at as u64),
+    }
+}
+
+// What the field of this form at a place says. Bytes that end before the field does are refusal 2.
+pub fn field_at(bytes: &[u8], at: usize, form: Form) -> Field
+    ensures { λ r. ⌜ r ≡ fieldAt (now (bytes .entry)) at form ⌝ }
+{
+    let n = decimal::width(form);
+    if bytes.len() < n {
+        return refused(2, 0);
+    }
+    if bytes.len() - n < at {
+        return refused(2, 0);
+    }
+    let end = at + n;
+    from_written(decimal::read(&bytes[at..end], form), at)
+}
+
+fn listed_row(i: usize) -> Listed
+    requires { ⌜ i < 13 ⌝ }
+    ensures { λ r. ⌜ r ≡ listed i ⌝ }
+{
+    LISTED[i]
+}
+
+// The field reader: a record's bytes and the number of a listed field. No such number is 14; then 2
+// where the bytes end before the field does; then 6.
+pub fn listed_field(bytes: &[u8], number: u64) -> Field
+    ensures { λ r. ⌜ r ≡ listedField (now (bytes .entry)) number ⌝ }
+{
+    if words::within(1, number, 13) {
+        let row = listed_row((number - 1) as usize);
+        let form = row.form;
+        return field_at(bytes, words::place(row.first), form);
+    }
+    refused(14, 0)
+}

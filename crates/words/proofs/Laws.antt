@@ -1,0 +1,43 @@
+-- What the numbers of several bytes are at the end of the bytes, by computing each byte that is not there as 0; and that an equation leaves one answer.
+use Prim.Native.Nat.{ℕ, _+_, _≤_}
+use mathlib.Core.Path.{_≡_, refl, sym, _∙_}
+use mathlib.Core.List.{List}
+use mathlib.Core.Bool.{Bool, true, false, false≢true}
+use lib.Dec.{leb}
+use borrow.Author.Tests.{leb-true, le-leb}
+use native.Mathlib.Omega.{arith}
+use lib.ListN.{length, List·getD-eq-default}
+use Rattle.words.specs.Tests.{withinOf, bothOf}
+use Rattle.words.specs.Words.{byteAt, twoAt, fourAt}
+
+-- no second answer fits a promise that is an equation
+pub one-answer : {A : Type 0} {r r′ d : A} → r ≡ d → r′ ≡ d → r ≡ r′
+one-answer p q = p ∙ sym q
+
+-- past the end each of these numbers is 0
+module _ (b : List ℕ) (at : ℕ) (h : length b ≤ at) where
+  pub byte-none : byteAt b at ≡ 0
+  byte-none = List·getD-eq-default b 0 h
+
+pub two-none : (b : List ℕ) (at : ℕ) → length b ≤ at → twoAt b at ≡ 0
+unfolding twoAt
+two-none b at h = rw (byte-none b at h, byte-none b (at + 1) (omega arith))
+
+pub four-none : (b : List ℕ) (at : ℕ) → length b ≤ at → fourAt b at ≡ 0
+unfolding fourAt
+four-none b at h = rw (two-none b at h, two-none b (at + 2) (omega arith))
+
+-- the test of a range, and the fact
+pub within-true : (lo x hi : ℕ) → withinOf lo x hi ≡ true → (lo ≤ x) × (x ≤ hi)
+within-true lo x hi e = go (leb lo x) (leb x hi) refl refl e
+  where
+    go : (a b : Bool) → leb lo x ≡ a → leb x hi ≡ b → bothOf a b ≡ true → (lo ≤ x) × (x ≤ hi)
+    go true true p q h = (leb-true lo x p, leb-true x hi q)
+    go true false p q h = absurd (false≢true h)
+    go false b p q h = absurd (false≢true h)
+
+pub true-within : (lo x hi : ℕ) → lo ≤ x → x ≤ hi → withinOf lo x hi ≡ true
+true-within lo x hi l h = rw (le-leb lo x l, le-leb x hi h)
+
+pub within-false : (lo x hi : ℕ) → withinOf lo x hi ≡ false → (lo ≤ x) × (x ≤ hi) → ⊥
+within-false lo x hi e h = false≢true (sym e ∙ true-within lo x hi (h .0) (h .1))
