@@ -115,7 +115,8 @@ pub fn field_at(bytes: &[u8], at: usize, form: Form) -> Field
     from_written(decimal::read(&bytes[at..end], form), at)
 }
 
-fn listed_row(i: usize) -> Listed
+// Row i of the table, from 0.
+pub fn listed_row(i: usize) -> Listed
     requires { ⌜ i < 13 ⌝ }
     ensures { λ r. ⌜ r ≡ listed i ⌝ }
 {

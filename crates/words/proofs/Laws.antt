@@ -1,13 +1,14 @@
 -- What the numbers of several bytes are at the end of the bytes, by computing each byte that is not there as 0; and that an equation leaves one answer.
 use Prim.Native.Nat.{ℕ, _+_, _≤_}
-use mathlib.Core.Path.{_≡_, refl, sym, _∙_}
+use mathlib.Core.Path.{_≡_, refl, sym, ap, ap₂, _∙_}
 use mathlib.Core.List.{List}
 use mathlib.Core.Bool.{Bool, true, false, false≢true}
 use lib.Dec.{leb}
 use borrow.Author.Tests.{leb-true, le-leb}
 use native.Mathlib.Omega.{arith}
 use lib.ListN.{length, List·getD-eq-default}
-use Rattle.words.specs.Tests.{withinOf, bothOf}
+use mathlib.Core.Logic.{_⊎_, inl, inr}
+use Rattle.words.specs.Tests.{pick, withinOf, bothOf}
 use Rattle.words.specs.Words.{byteAt, twoAt, fourAt}
 
 -- no second answer fits a promise that is an equation
@@ -41,3 +42,33 @@ true-within lo x hi l h = rw (le-leb lo x l, le-leb x hi h)
 
 pub within-false : (lo x hi : ℕ) → withinOf lo x hi ≡ false → (lo ≤ x) × (x ≤ hi) → ⊥
 within-false lo x hi e h = false≢true (sym e ∙ true-within lo x hi (h .0) (h .1))
+
+-- ---- tests put together
+
+pub both≡ : {r a b a′ b′ : Bool} → r ≡ bothOf a b → a ≡ a′ → b ≡ b′ → r ≡ bothOf a′ b′
+both≡ e p q = e ∙ ap₂ bothOf p q
+
+pub both-false : (a : Bool) → bothOf a false ≡ false
+both-false true = refl
+both-false false = refl
+
+pub both-l : (a b : Bool) → bothOf a b ≡ true → a ≡ true
+both-l true b h = refl
+both-l false b h = h
+
+pub both-r : (a b : Bool) → bothOf a b ≡ true → b ≡ true
+both-r true b h = h
+both-r false b h = absurd (false≢true h)
+
+pub both-make : (a b : Bool) → a ≡ true → b ≡ true → bothOf a b ≡ true
+both-make a b p q = simp (p, q)
+
+pub pick-true : {A : Type 0} (b : Bool) (x y : A) → b ≡ true → pick b x y ≡ x
+pick-true b x y h = ap (λ (t : Bool). pick t x y) h
+
+pub pick-false : {A : Type 0} (b : Bool) (x y : A) → b ≡ false → pick b x y ≡ y
+pick-false b x y h = ap (λ (t : Bool). pick t x y) h
+
+pub cases : (b : Bool) → (b ≡ true) ⊎ (b ≡ false)
+cases true = inl refl
+cases false = inr refl

@@ -1,0 +1,4 @@
+-- The specs of `bodies`: lists of tests, the tests of each record's body in document 01's order, and the plan that a first record names.
+pub mod Tests
+pub mod Bodies
+pub mod Named

@@ -1,0 +1,63 @@
+-- What the definitions of codes and lengths say in each of their cases, by computing their tests.
+use Prim.Native.Nat.{ℕ, zero, suc, _+_, _-_, _≤_}
+use mathlib.Core.Path.{_≡_, refl}
+use native.Mathlib.Omega.{arith}
+use lib.ListN.{length, List·getD-eq-default}
+use borrow.Author.Tests.{eq-eqb, ne-eqb}
+use Rattle.plan.specs.Tables.{slot, slots, slotOf, codes, others, otherCodes}
+use mathlib.Core.Bool.{Bool, true, false}
+use lib.Dec.{eqb}
+use Rattle.words.specs.Tests.{pick}
+use Rattle.plan.specs.Plan.{volume, leader, codesOf, firstLength, runCounts, runLengths, spotFrom, spotOf}
+use Rattle.plan.specs.declared.Plan.{Plan}
+
+pub slot-none : (i : ℕ) → 17 ≤ i → slotOf i ≡ slot 0 0 0 0 0
+unfolding slotOf
+slot-none i h = List·getD-eq-default slots (slot 0 0 0 0 0) h
+
+pub other-none : (i : ℕ) → 7 ≤ i → otherCodes i ≡ codes 0 0 0 0
+unfolding otherCodes
+other-none i h = List·getD-eq-default others (codes 0 0 0 0) h
+
+module _ (kind : ℕ) where
+  pub codes-first : (run : ℕ) → run ≡ 0 → codesOf kind run ≡ otherCodes (kind - 1)
+  unfolding codesOf
+  codes-first zero e = refl
+  codes-first (suc i) e = absurd (omega arith)
+
+  pub codes-slot : (run : ℕ) → (run ≡ 0 → ⊥) → kind ≡ leader
+      → codesOf kind run ≡ record { one = 18; two = slotOf (run - 1) .code; three = 18; four = 20; free = slotOf (run - 1) .free }
+  unfolding codesOf
+  codes-slot zero n e = absurd (n refl)
+  codes-slot (suc i) n e = let d : suc i - 1 ≡ i = omega arith in rw (eq-eqb kind leader e, d)
+
+  pub codes-volume : (run : ℕ) → (run ≡ 0 → ⊥) → kind ≡ volume → codesOf kind run ≡ otherCodes (3 + run)
+  unfolding codesOf
+  codes-volume zero n e = absurd (n refl)
+  codes-volume (suc i) n e =
+      let d : 3 + suc i ≡ 4 + i = omega arith in rw (ne-eqb kind leader (omega arith), eq-eqb kind volume e, d)
+
+  pub codes-line : (run : ℕ) → (run ≡ 0 → ⊥) → (kind ≡ leader → ⊥) → (kind ≡ volume → ⊥) → codesOf kind run ≡ otherCodes 6
+  unfolding codesOf
+  codes-line zero n e f = absurd (n refl)
+  codes-line (suc i) n e f = rw (ne-eqb kind leader e, ne-eqb kind volume f)
+
+module _ (kind : ℕ) where
+  first-cases : (b : Bool) → pick b 360 720 ≤ 720
+  first-cases true = omega arith
+  first-cases false = omega arith
+
+  pub first-bound : firstLength kind ≤ 720
+  unfolding firstLength
+  first-bound = first-cases (eqb kind volume)
+
+  module _ (p : Plan) where
+    pub spot-first : (k : ℕ) → k ≡ 0 → spotOf kind p k ≡ record { run = 0; length = firstLength kind; start = 0 }
+    unfolding spotOf
+    spot-first zero e = refl
+    spot-first (suc k) e = absurd (omega arith)
+
+    pub spot-later : (k : ℕ) → (k ≡ 0 → ⊥) → spotOf kind p k ≡ spotFrom 1 (runCounts kind p) (runLengths kind p) (k - 1) (firstLength kind)
+    unfolding spotOf
+    spot-later zero n = absurd (n refl)
+    spot-later (suc k) n = let d : suc k - 1 ≡ k = omega arith in rw d

@@ -1,0 +1,4 @@
+pub mod RunLaws
+pub mod CodeLaws
+pub mod GoodLaws
+pub mod Bounds

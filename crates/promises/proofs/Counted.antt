@@ -1,0 +1,78 @@
+-- What a call hands back besides its stop, for any state, bytes and budget: the count is the state's difference; by induction over the turns.
+use Prim.Native.Nat.{ℕ, _+_, _≤_}
+use mathlib.Core.Path.{_≡_, refl, sym, ap, _∙_}
+use mathlib.Core.Logic.{_≢_}
+use mathlib.Core.List.{List}
+use mathlib.Core.Bool.{Bool, true, false}
+use native.Mathlib.Omega.{arith}
+use Rattle.words.specs.declared.Refusal.{Refusal}
+use Rattle.walk.specs.Rule.{goodState}
+use Rattle.walk.specs.Turn.{nextOf, badStop, walkOf}
+use Rattle.walk.specs.declared.State.{State}
+use Rattle.walk.specs.declared.Stop.the-variants.{Pause, Complete, Refused}
+use Rattle.walk.proofs.LoopLaws.{walk-bad}
+use Rattle.walk.proofs.TurnLaws.{good-next}
+use Rattle.promises.proofs.Steps.{by-turns}
+use Rattle.promises.proofs.Turns.{open-turn, turn-ordinal, never-pause, pause≢complete, pause≢refused, refused≢pause, refused≢complete, refused-same}
+
+module _ (st : State) (b : List ℕ) where
+  next-passed : nextOf st b .passed ≡ st .passed + 1
+  unfolding nextOf
+  next-passed = refl
+
+  next-kind : nextOf st b .kind ≡ st .kind
+  unfolding nextOf
+  next-kind = refl
+
+-- the count is the state's difference
+pub counted : (b : ℕ) (st : State) (bs : List ℕ) (c : Bool) → walkOf b st bs c .state .passed ≡ st .passed + walkOf b st bs c .count
+counted b st bs c =
+    by-turns c (λ n s y w u. w .state .passed ≡ s .passed + w .count) (λ n s y g. omega arith) (λ s y g. omega arith) (λ n s y x g t. omega arith)
+    (λ n s y w u g t e. omega (arith, next-passed s y)) b st bs
+
+-- no more records are passed than the budget allows
+pub count-within : (b : ℕ) (st : State) (bs : List ℕ) (c : Bool) → walkOf b st bs c .count ≤ b
+count-within b st bs c =
+    by-turns c (λ n s y w u. w .count ≤ n) (λ n s y g. omega arith) (λ s y g. omega arith) (λ n s y x g t. omega arith)
+    (λ n s y w u g t e. omega arith) b st bs
+
+-- the kind stays
+pub kind-kept : (b : ℕ) (st : State) (bs : List ℕ) (c : Bool) → walkOf b st bs c .state .kind ≡ st .kind
+kind-kept b st bs c =
+    by-turns c (λ n s y w u. w .state .kind ≡ s .kind) (λ n s y g. refl) (λ s y g. refl) (λ n s y x g t. refl)
+    (λ n s y w u g t e. e ∙ next-kind s y) b st bs
+
+-- a good state in gives a good state out
+pub good-kept : (b : ℕ) (st : State) (bs : List ℕ) (c : Bool) → goodState st ≡ true → goodState (walkOf b st bs c .state) ≡ true
+good-kept b st bs c =
+    by-turns c (λ n s y w u. goodState s ≡ true → goodState (w .state) ≡ true) (λ n s y g h. h) (λ s y g h. h) (λ n s y x g t h. h)
+    (λ n s y w u g t e h. e (good-next s y c h t)) b st bs
+
+-- a bad state: refusal 11, record 0, place 0; the state given; nothing passed
+pub bad-kept : (b : ℕ) (st : State) (bs : List ℕ) (c : Bool) → goodState st ≡ false
+    → walkOf b st bs c ≡ record { state = st; count = 0; stop = Refused (record { number = 11; «record» = 0; place = 0 }) }
+unfolding badStop
+bad-kept b st bs c h = walk-bad st bs c b h
+
+-- an open file is never complete
+pub open-never-complete : (b : ℕ) (st : State) (bs : List ℕ) → walkOf b st bs false .stop ≢ Complete
+unfolding badStop
+open-never-complete b st bs =
+    by-turns false (λ n s y w u. w .stop ≢ Complete) (λ n s y g. refused≢complete) (λ s y g. pause≢complete) (λ n s y x g t. open-turn s y x t)
+    (λ n s y w u g t e. e) b st bs
+
+-- a refused record is the one behind the state handed back: the state is the one before that record
+pub refused-ordinal : (b : ℕ) (st : State) (bs : List ℕ) (c : Bool) (x : Refusal) → walkOf b st bs c .stop ≡ Refused x → x .number ≢ 11
+    → x .«record» ≡ walkOf b st bs c .state .passed + 1
+unfolding badStop
+refused-ordinal b st bs c =
+    by-turns c (λ n s y w u. (x : Refusal) → w .stop ≡ Refused x → x .number ≢ 11 → x .«record» ≡ w .state .passed + 1)
+    (λ n s y g x e h. absurd (h (ap (λ (r : Refusal). r .number) (sym (refused-same e))))) (λ s y g x e h. absurd (pause≢refused e))
+    (λ n s y z g t x e h. turn-ordinal s y c z t x e) (λ n s y w u g t i. i) b st bs
+
+-- a pause has used up the budget
+pub pause-counted : (b : ℕ) (st : State) (bs : List ℕ) (c : Bool) → walkOf b st bs c .stop ≡ Pause → walkOf b st bs c .count ≡ b
+unfolding badStop
+pause-counted b st bs c =
+    by-turns c (λ n s y w u. w .stop ≡ Pause → w .count ≡ n) (λ n s y g e. absurd (refused≢pause e)) (λ s y g e. refl)
+    (λ n s y x g t e. absurd (never-pause s y c x t e)) (λ n s y w u g t i e. omega (arith, i e)) b st bs

@@ -1,0 +1,9 @@
+pub mod Steps
+pub mod Turns
+pub mod Counted
+pub mod Stays
+pub mod Pieces
+pub mod Enough
+pub mod OneAnswer
+pub mod Starts
+pub mod Eleven

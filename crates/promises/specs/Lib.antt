@@ -1,0 +1,3 @@
+-- The specs of `promises`: what a file is, and how many bytes a walk passed.
+pub mod Rules
+pub mod Pieces

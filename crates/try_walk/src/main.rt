@@ -1,0 +1,254 @@
+// Runs examples of the walk. The commands come on standard input, one to a line; tests/walk.py makes
+// them and what is to be answered. The program holds 65,536 bytes and one state.
+//
+//   # TEXT                       is printed as it stands
+//   c VALUE                      every byte held becomes VALUE
+//   p BYTE:TEXT                  TEXT is put from byte BYTE (from 1) on
+//   b BYTE VALUE                 one byte
+//   q BYTE VALUE                 a four-byte number, high byte first
+//   g KIND                       the state is begun
+//   w FROM LENGTH CLOSED BUDGET  the walk over LENGTH bytes from place FROM (from 0) on
+//   t FROM LENGTH CLOSED         one step
+//   s                            the place of the next record's first byte
+//   v                            the state's 42 numbers
+//   n INDEX VALUE                one of them is set
+use script::Taken;
+use walk::Beginning;
+use walk::State;
+use walk::Stop;
+use walk::Walked;
+use words::Refusal;
+
+fn say_refusal(r: Refusal) {
+    script::say(b"REFUSED");
+    script::say_number(r.number);
+    script::say(b" RECORD");
+    script::say_number(r.record);
+    script::say(b" AT");
+    script::say_number(r.place);
+}
+
+fn say_walked(w: Walked) {
+    let stop = w.stop;
+    match stop {
+        Stop::Wait(n) => {
+            script::say(b"WAIT");
+            script::say_number(n);
+        }
+        Stop::Pause => script::say(b"PAUSE"),
+        Stop::Complete => script::say(b"COMPLETE"),
+        Stop::Refused(r) => say_refusal(r),
+    }
+    script::say(b" COUNT");
+    script::say_number(w.count);
+    script::say(b" PASSED");
+    let st = w.state;
+    script::say_number(st.passed);
+    script::say(b"\n");
+}
+
+fn begun(st: State, kind: u64) -> State {
+    let b = st.begin(kind);
+    let answer = b.answer;
+    match answer {
+        Beginning::Fresh => script::say(b"BEGUN"),
+        Beginning::Unknown(r) => say_refusal(r),
+    }
+    script::say(b"\n");
+    b.state
+}
+
+// The bytes that a command names, as far as they are held.
+fn part(held: &[u8], from: u64, long: u64) -> &[u8] {
+    let a = script::within(from, held.len());
+    let n = script::within(long, held.len() - a);
+    let e = a + n;
+    &held[a..e]
+}
+
+fn walked(line: &[u8], op: u8, held: &[u8], st: State) -> State {
+    let from = script::first(line);
+    let long = script::after(line, from);
+    let closed = script::after(line, long);
+    let budget = script::after(line, closed);
+    let bytes = part(held, from.value, long.value);
+    let w = if op == b't' {
+        st.step(bytes, closed.value != 0)
+    } else {
+        st.walk(bytes, closed.value != 0, budget.value)
+    };
+    say_walked(w);
+    w.state
+}
+
+// Number i of the state's pairs: row i / 2, its count or its length.
+fn pair_number(p: plan::Plan, i: u64) -> u64 {
+    let at = script::within(i / 2, 16);
+    if i % 2 == 0 {
+        p.counts[at]
+    } else {
+        p.lengths[at]
+    }
+}
+
+fn number_of(st: State, i: u64) -> u64 {
+    let p = st.plan;
+    if i == 0 {
+        return st.kind;
+    }
+    if i == 1 {
+        return st.passed;
+    }
+    if i == 2 {
+        return p.pointers;
+    }
+    if i < 37 {
+        return pair_number(p, i - 3);
+    }
+    match i {
+        37 => p.n,
+        38 => p.l,
+        39 => p.w,
+        40 => p.d,
+        _ => p.s,
+    }
+}
+
+fn say_state(st: State) {
+    script::say(b"STATE");
+    let mut i = 0;
+    while i < 42 {
+        script::say_number(number_of(st, i));
+        i += 1;
+    }
+    script::say(b"\n");
+}
+
+fn with_pair(p: plan::Plan, i: u64, v: u64) -> plan::Plan {
+    let at = script::within(i / 2, 16);
+    let mut q = p;
+    if i % 2 == 0 {
+        q.counts[at] = v;
+    } else {
+        q.lengths[at] = v;
+    }
+    q
+}
+
+fn with_plan(p: plan::Plan, i: u64, v: u64) -> plan::Plan {
+    let mut q = p;
+    if i == 2 {
+        q.pointers = v;
+    } else if i < 37 {
+        q = with_pair(p, if i < 3 { 0 } else { i - 3 }, v);
+    } else if i == 37 {
+        q.n = v;
+    } else if i == 38 {
+        q.l = v;
+    } else if i == 39 {
+        q.w = v;
+    } else if i == 40 {
+        q.d = v;
+    } else {
+        q.s = v;
+    }
+    q
+}
+
+fn with_number(st: State, i: u64, v: u64) -> State {
+    let mut t = st;
+    if i == 0 {
+        t.kind = v;
+    } else if i == 1 {
+        t.passed = v;
+    } else {
+        let p = st.plan;
+        let q = with_plan(p, i, v);
+        t.plan = q;
+    }
+    t
+}
+
+// The commands that change the bytes held.
+fn change(line: &[u8], op: u8, a: Taken, held: &mut [u8]) {
+    let at = script::within(a.value, held.len());
+    let to = words::place(at);
+    let v = script::after(line, a).value;
+    if op == b'c' {
+        script::fill(held, (a.value % 256) as u8);
+    } else if op == b'p' {
+        script::put(held, to, script::text(line, a));
+    } else if op == b'b' {
+        script::put(held, to, &[(v % 256) as u8]);
+    } else if op == b'q' {
+        script::put(
+            held,
+            to,
+            &[
+                (v / 16777216 % 256) as u8,
+                (v / 65536 % 256) as u8,
+                (v / 256 % 256) as u8,
+                (v % 256) as u8,
+            ],
+        );
+    }
+}
+
+// The commands that ask the state, or set it.
+fn ask(line: &[u8], op: u8, a: Taken, st: State) -> State {
+    if op == b'g' {
+        return begun(st, a.value);
+    }
+    if op == b's' {
+        script::say(b"START");
+        script::say_number(st.start());
+        script::say(b"\n");
+        return st;
+    }
+    if op == b'v' {
+        say_state(st);
+        return st;
+    }
+    if op == b'n' {
+        return with_number(st, a.value, script::after(line, a).value);
+    }
+    st
+}
+
+fn command(line: &[u8], held: &mut [u8], st: State) -> State {
+    if line.len() == 0 {
+        return st;
+    }
+    let op = line[0];
+    let a = script::first(line);
+    if op == b'#' {
+        script::say(line);
+        script::say(b"\n");
+        return st;
+    }
+    if op == b'w' {
+        return walked(line, op, held, st);
+    }
+    if op == b't' {
+        return walked(line, op, held, st);
+    }
+    change(line, op, a, held);
+    ask(line, op, a, st)
+}
+
+fn run(input: &[u8], held: &mut [u8]) {
+    let mut at = 0;
+    let mut st = State::none();
+    while at < input.len() {
+        let end = script::line_end(input, at);
+        st = command(&input[at..end], held, st);
+        at = end + 1;
+    }
+}
+
+fn main() {
+    let mut input = [0u8; 262144];
+    let n = io::read_full(0, &mut input);
+    let mut held = io::large_buffer();
+    run(&input[..n], &mut held);
+}

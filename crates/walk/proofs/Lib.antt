@@ -1,0 +1,4 @@
+pub mod GoodLaws
+pub mod NearLaws
+pub mod TurnLaws
+pub mod LoopLaws

@@ -1,0 +1,80 @@
+-- The walk, a turn at a time, and the loop that takes the turns: what is left of the walk, behind the records passed, is the whole walk.
+use Prim.Native.Nat.{ℕ, zero, suc, _+_, _-_, _≤_, _<_}
+use mathlib.Core.Path.{_≡_, sym, ap, _∙_}
+use mathlib.Core.List.{List}
+use mathlib.Core.Bool.{Bool, true, false}
+use native.Mathlib.Omega.{arith}
+use native.Mathlib.Nat.{zero-add}
+use lib.ListN.{length, take, drop, length-drop}
+use lib.Seq.{drop-drop, take-length}
+use Rattle.walk.specs.Rule.{goodState, nextSpot}
+use Rattle.walk.specs.Turn.{turnOf, nextOf, stopped, more, badStop, walkOf}
+use Rattle.walk.specs.declared.State.{State}
+use Rattle.walk.specs.declared.Stop.{Stop}
+use Rattle.walk.specs.declared.Stop.the-variants.{Pause}
+use Rattle.walk.specs.declared.Turn.the-variants.{Pass, Halt}
+use Rattle.walk.specs.declared.Walked.{Walked}
+use Rattle.walk.proofs.TurnLaws.{pass-long}
+
+module _ (st : State) (b : List ℕ) (c : Bool) where
+  pub walk-bad : (f : ℕ) → goodState st ≡ false → walkOf f st b c ≡ stopped st badStop
+  unfolding walkOf
+  walk-bad zero h = simp h
+  walk-bad (suc f) h = simp h
+
+  pub walk-pause : goodState st ≡ true → walkOf 0 st b c ≡ stopped st Pause
+  unfolding walkOf
+  walk-pause h = simp h
+
+  pub walk-halt : (f : ℕ) (x : Stop) → goodState st ≡ true → turnOf st b c ≡ Halt x → walkOf (suc f) st b c ≡ stopped st x
+  unfolding walkOf
+  walk-halt f x h t = simp (h, t)
+
+  pub walk-pass : (f : ℕ) → goodState st ≡ true → turnOf st b c ≡ Pass → walkOf (suc f) st b c ≡ more 1 (walkOf f (nextOf st b) (drop (nextSpot st .length) b) c)
+  unfolding walkOf
+  walk-pass f h t = simp (h, t)
+
+-- counts add up
+pub more-more : (n : ℕ) (w : Walked) → more n (more 1 w) ≡ more (n + 1) w
+more-more n w = ap (λ (k : ℕ). record { state = w .state; count = k; stop = w .stop }) (let e : w .count + 1 + n ≡ w .count + (n + 1) = omega arith in e)
+
+pub more-none : (w : Walked) → w ≡ more 0 w
+more-none w = ap (λ (k : ℕ). record { state = w .state; count = k; stop = w .stop }) (let e : w .count ≡ w .count + 0 = omega arith in e)
+
+more-stopped : (n : ℕ) (st : State) (x : Stop) → more n (stopped st x) ≡ record { state = st; count = n; stop = x }
+more-stopped n st x = ap (λ (k : ℕ). record { state = st; count = k; stop = x }) (zero-add n)
+
+less-one : (m n : ℕ) → n < m → m - n ≡ suc (m - (n + 1))
+less-one m n h = omega arith
+
+-- what the code hands on as `&bytes[at..]`
+abbrev pub rest : List ℕ → ℕ → List ℕ
+rest b at = take (length b - at) (drop at b)
+
+pub rest-is : (b : List ℕ) (at : ℕ) → rest b at ≡ drop at b
+rest-is b at = ap (λ (k : ℕ). take k (drop at b)) (sym (length-drop at b)) ∙ take-length (drop at b)
+
+module _ (m n at : ℕ) (st : State) (b : List ℕ) (c : Bool) where
+  pub turn-halt : (x : Stop) → n < m → goodState st ≡ true → turnOf st (rest b at) c ≡ Halt x
+      → more n (walkOf (m - n) st (drop at b) c) ≡ record { state = st; count = n; stop = x }
+  turn-halt x h g t =
+      ap (λ (f : ℕ). more n (walkOf f st (drop at b) c)) (less-one m n h)
+      ∙ ap (more n) (walk-halt st (drop at b) c (m - (n + 1)) x g (rw (rest-is b at) at t))
+      ∙ more-stopped n st x
+
+  pub turn-pass : (long : ℕ) (st′ : State) → n < m → goodState st ≡ true → turnOf st (rest b at) c ≡ Pass → long ≡ nextSpot st .length → st′ ≡ nextOf st (rest b at)
+      → more n (walkOf (m - n) st (drop at b) c) ≡ more (n + 1) (walkOf (m - (n + 1)) st′ (drop (at + long) b) c)
+  turn-pass long st′ h g t e q =
+      ap (λ (f : ℕ). more n (walkOf f st (drop at b) c)) (less-one m n h)
+      ∙ ap (more n) (walk-pass st (drop at b) c (m - (n + 1)) g (rw (rest-is b at) at t))
+      ∙ more-more n (walkOf (m - (n + 1)) (nextOf st (drop at b)) (drop (nextSpot st .length) (drop at b)) c)
+      ∙ rw (q, rest-is b at, e, ← drop-drop)
+
+  pub pass-room : (long : ℕ) → at ≤ length b → turnOf st (rest b at) c ≡ Pass → long ≡ nextSpot st .length → at + long ≤ length b
+  pass-room long h t e =
+      omega (arith, pass-long (st .kind) (st .plan) (st .passed) (nextSpot st) (drop at b) c (rw (rest-is b at) at t), length-drop at b)
+
+  pub walk-end : m ≤ n → goodState st ≡ true → more n (walkOf (m - n) st (drop at b) c) ≡ record { state = st; count = n; stop = Pause }
+  walk-end h g =
+      let z : m - n ≡ 0 = omega arith in
+      ap (λ (f : ℕ). more n (walkOf f st (drop at b) c)) z ∙ ap (more n) (walk-pause st (drop at b) c g) ∙ more-stopped n st Pause

@@ -1,0 +1,136 @@
+-- What is left of the walk from the state reached, behind the records passed, is the whole walk: the loop's invariant. A bad state is answered before the loop, and a passed record leaves a good one.
+use Prim.Native.Nat.{ℕ, zero, _-_, _≤_}
+use mathlib.Core.Path.{_≡_, sym, ap, _∙_, subst}
+use mathlib.Core.Bool.{true}
+use native.Mathlib.Omega.{arith}
+use borrow.Author.Needs.{needs}
+use borrow.Author.Tests.{not-true, not-false}
+use lib.ListN.{length, drop}
+use Rattle.walk.proofs.State.walk.Statement.{statement}
+use native.Mathlib.Nat.{sub-zero}
+use Rattle.plan.specs.declared.Spot.{Spot}
+use Rattle.walk.specs.Rule.{goodState, nextSpot}
+use Rattle.walk.specs.Turn.{walkOf, more, stopped, judgeOf}
+use Rattle.walk.specs.declared.Stop.{Stop}
+use Rattle.walk.proofs.State.walk.Tie as tie
+use Rattle.walk.proofs.GoodLaws as good-laws
+use Rattle.walk.proofs.TurnLaws as turn-laws
+use Rattle.walk.proofs.LoopLaws as laws
+
+abbrev Inv-loop : tie.InvT-loop
+Inv-loop bytes closed budget st₀ n₀ at₀ st n at = (at ≤ length bytes) × (n ≤ budget) × (goodState st ≡ true) × (walkOf budget st₀ bytes closed ≡ more n (walkOf (budget - n) st (drop at bytes) closed))
+
+abbrev μ-loop : tie.MeasureT-loop
+μ-loop bytes closed budget st₀ n₀ at₀ st n at = budget - n
+
+good-requires : tie.Need-good-requires Inv-loop μ-loop
+good-requires c κs = search needs
+
+bad-stop-requires : tie.Need-bad-stop-requires Inv-loop μ-loop
+bad-stop-requires c κs = search needs
+
+returns : tie.Need-returns Inv-loop μ-loop
+returns c = ap (λ (x : Stop). stopped (c .before .before .before .before .args .self) x) (c .bad-stop .ensures) ∙ sym (laws.walk-bad (c .before .before .before .before .args .self) (c .before .before .before .before .args .bytes .now) (c .before .before .before .before .args .closed) (c .before .before .before .before .args .budget) (sym (c .before .before .good2 .ensures) ∙ not-true (c .before .before .good2 .result) (c .before .if1 .taken)))
+
+loop-holds : tie.Need-loop-holds Inv-loop μ-loop
+loop-holds c = (
+  omega arith,
+  omega arith,
+  sym (c .before .good2 .ensures) ∙ not-false (c .before .good2 .result) (c .if1 .left),
+  laws.more-none (walkOf (c .before .before .before .args .budget) (c .before .before .before .args .self) (c .before .before .before .args .bytes .now) (c .before .before .before .args .closed)) ∙ ap (λ (f : ℕ). more 0 (walkOf f (c .before .before .before .args .self) (c .before .before .before .args .bytes .now) (c .before .before .before .args .closed))) (sym (sub-zero (c .before .before .before .args .budget))),
+)
+
+sub-rest : tie.Need-sub-rest Inv-loop μ-loop
+sub-rest c = search needs
+
+part-rest-start : tie.Need-part-rest-start Inv-loop μ-loop
+part-rest-start c = search needs
+
+part-rest-end : tie.Need-part-rest-end Inv-loop μ-loop
+part-rest-end c = search needs
+
+spot-of-requires : tie.Need-spot-of-requires Inv-loop μ-loop
+spot-of-requires c κs = good-laws.ready (c .before .before .before .loop .st) (c .before .before .before .loop .inv .2) .small
+
+judge-requires : tie.Need-judge-requires Inv-loop μ-loop
+judge-requires c κs = (good-laws.ready (c .before .before .before .before .loop .st) (c .before .before .before .before .loop .inv .2) .small, (good-laws.ready (c .before .before .before .before .loop .st) (c .before .before .before .before .loop .inv .2) .within, c .spot-of .ensures .1))
+
+enum-known-turn : tie.Need-enum-known-turn Inv-loop μ-loop
+enum-known-turn c = search needs
+
+returns-2 : tie.Need-returns-2 Inv-loop μ-loop
+returns-2 c =
+    let l = c .before .before .before .before .before .before .before .before .loop in
+    let a = c .before .before .before .before .before .before .before .before .before .before .before .before .args in
+    let t = sym (c .before .before .before .judge .ensures .0 ∙ ap (λ (x : Spot). judgeOf (l .st .kind) (l .st .plan) (l .st .passed) x (laws.rest (a .bytes .now) (l .at)) (a .closed)) (c .before .before .before .before .spot-of .ensures .0)) ∙ c .before .turn .given .1 in
+    sym (l .inv .3 ∙ laws.turn-halt (a .budget) (l .n) (l .at) (l .st) (a .bytes .now) (a .closed) _ (c .before .before .before .before .before .before .before .loop-test .taken) (l .inv .2) t)
+
+enum-told : tie.Need-enum-told Inv-loop μ-loop
+enum-told c = search needs
+
+add-at : tie.Need-add-at Inv-loop μ-loop
+add-at c =
+    let l = c .before .before .before .before .before .before .before .loop in
+    let a = c .before .before .before .before .before .before .before .before .before .before .before .args in
+    let t = sym (c .before .before .judge .ensures .0 ∙ ap (λ (x : Spot). judgeOf (l .st .kind) (l .st .plan) (l .st .passed) x (laws.rest (a .bytes .now) (l .at)) (a .closed)) (c .before .before .before .spot-of .ensures .0)) ∙ c .enum-told .given .1 in
+    omega (arith, laws.pass-room (a .budget) (l .n) (l .at) (l .st) (a .bytes .now) (a .closed) (c .before .before .before .spot-of .result .length) (l .inv .0) t (ap (λ (x : Spot). x .length) (c .before .before .before .spot-of .ensures .0)))
+
+next-requires : tie.Need-next-requires Inv-loop μ-loop
+next-requires c κs =
+    let l = c .before .before .before .before .before .before .before .loop in
+    let a = c .before .before .before .before .before .before .before .before .before .before .before .args in
+    let t = sym (c .before .before .judge .ensures .0 ∙ ap (λ (x : Spot). judgeOf (l .st .kind) (l .st .plan) (l .st .passed) x (laws.rest (a .bytes .now) (l .at)) (a .closed)) (c .before .before .before .spot-of .ensures .0)) ∙ c .enum-told .given .1 in (
+      c .before .before .before .spot-of .ensures .0,
+      (
+        omega (arith, c .before .before .judge .ensures .1 (c .enum-told .given .1)),
+        subst (λ (x : Spot). x .length ≤ length (laws.rest (a .bytes .now) (l .at))) (sym (c .before .before .before .spot-of .ensures .0)) (turn-laws.pass-long (l .st .kind) (l .st .plan) (l .st .passed) (nextSpot (l .st)) (laws.rest (a .bytes .now) (l .at)) (a .closed) t),
+      ),
+    )
+
+add-n : tie.Need-add-n Inv-loop μ-loop
+add-n c = search needs
+
+loop-less : tie.Need-loop-less Inv-loop μ-loop
+loop-less c = search needs
+
+loop-again : tie.Need-loop-again Inv-loop μ-loop
+loop-again c =
+    let l = c .before .before .before .before .before .before .before .before .loop in
+    let a = c .before .before .before .before .before .before .before .before .before .before .before .before .args in
+    let t = sym (c .before .before .before .judge .ensures .0 ∙ ap (λ (x : Spot). judgeOf (l .st .kind) (l .st .plan) (l .st .passed) x (laws.rest (a .bytes .now) (l .at)) (a .closed)) (c .before .before .before .before .spot-of .ensures .0)) ∙ c .before .enum-told .given .1 in
+    let e = ap (λ (x : Spot). x .length) (c .before .before .before .before .spot-of .ensures .0) in (
+      laws.pass-room (a .budget) (l .n) (l .at) (l .st) (a .bytes .now) (a .closed) (c .before .before .before .before .spot-of .result .length) (l .inv .0) t e,
+      omega arith,
+      ap goodState (c .next .ensures) ∙ turn-laws.good-next (l .st) _ (a .closed) (l .inv .2) t,
+      l .inv .3 ∙ laws.turn-pass (a .budget) (l .n) (l .at) (l .st) (a .bytes .now) (a .closed) (c .before .before .before .before .spot-of .result .length) (c .next .result) (c .before .before .before .before .before .before .before .loop-test .taken) (l .inv .2) t e (c .next .ensures),
+    )
+
+returns-3 : tie.Need-returns-3 Inv-loop μ-loop
+returns-3 c =
+    let l = c .before .loop in
+    sym (l .inv .3 ∙ laws.walk-end (c .before .before .before .before .before .args .budget) (l .n) (l .at) (l .st) (c .before .before .before .before .before .args .bytes .now) (c .before .before .before .before .before .args .closed) (c .loop-test .left) (l .inv .2))
+
+pub walk-spec : {M : Type 1} → statement M
+walk-spec =
+    tie.close
+    (tie.spec
+    Inv-loop
+    μ-loop
+    good-requires
+    bad-stop-requires
+    returns
+    loop-holds
+    sub-rest
+    part-rest-start
+    part-rest-end
+    spot-of-requires
+    judge-requires
+    enum-known-turn
+    returns-2
+    enum-told
+    add-at
+    next-requires
+    add-n
+    loop-less
+    loop-again
+    returns-3)
