@@ -7,3 +7,20 @@ pub mod Enough
 pub mod OneAnswer
 pub mod Starts
 pub mod Eleven
+-- The proofs of `promises`: the walk's judgements are the rules.
+pub mod Parts
+pub mod Each
+pub mod FirstVolume
+pub mod FirstLeader
+pub mod FirstImage
+pub mod FirstTrailer
+pub mod FirstIs
+pub mod BodyIs
+pub mod Runs
+pub mod LaterIs
+pub mod Least
+pub mod Passing
+pub mod Accepts
+pub mod Trailer
+pub mod Decided
+pub mod Bites

@@ -1,0 +1,92 @@
+-- An image's first record without a fault is exactly the descriptor that `Rules` describes, for the plan whose numbers it says: header, texts, eight numbers and three agreements, test by test.
+use Prim.Native.Nat.{ℕ, _+_, _*_, _≤_}
+use mathlib.Core.Path.{_≡_, refl, sym, _∙_, ap}
+use mathlib.Core.List.{List}
+use mathlib.Core.Logic.{_↔_}
+use native.Mathlib.Omega.{arith}
+use lib.ListN.{length}
+use lib.Seq.{slice}
+use borrow.Author.Tests.{eqb-true, eq-eqb, leb-true, le-leb}
+use Rattle.words.specs.Words.{placeOf}
+use Rattle.decimal.specs.Text.{bytes}
+use Rattle.decimal.specs.declared.Form.the-variants.{I4, I6, I8}
+use Rattle.plan.specs.Tables.{otherCodes}
+use Rattle.plan.specs.Plan.{codesOf}
+use Rattle.plan.specs.declared.Plan.{Plan}
+use Rattle.bodies.specs.Bodies.{at, number, numbers, numberAt, rowTests, numbersTests, agreements, bodyOf, bodyTests, imageRecord, imageTests}
+use Rattle.bodies.specs.declared.Verdict.the-variants.{Fine}
+use Rattle.bodies.proofs.Holding.{Holds, fine-holds, holds-fine, holds-split, holds-join, each-holds, number-holds}
+use Rattle.walk.specs.Turn.{headerOf}
+use Rattle.promises.specs.Rules.{ImageDescriptor}
+use Rattle.promises.proofs.Parts.{text-is, header-is, number-is}
+
+-- the plan's numbers that the record says
+pub record Named (r : List ℕ) (q : Plan) : Type 0 where
+  pub n : numberAt r 181 I6 ≡ q .n
+  pub l : numberAt r 187 I6 ≡ q .l
+  pub w : numberAt r 249 I8 ≡ q .w
+  pub d : numberAt r 281 I8 ≡ q .d
+  pub s : numberAt r 289 I4 ≡ q .s
+
+module _ (q : Plan) (r : List ℕ) (size : length r ≡ 720) where
+  numbers-to : Holds (imageTests r) → headerOf 1 (codesOf 3 0) 720 r ≡ Fine → Named r q → ImageDescriptor r q
+  unfolding imageTests numbersTests agreements codesOf otherCodes placeOf
+  numbers-to h e m =
+      let b = holds-split (numbersTests r 3 11) (agreements r) (h .1 .1) in
+      let row = each-holds (rowTests r) (number 0 I4 0 0) (slice 3 11 numbers) (b .0) in
+      let lines : numberAt r 181 I6 ≡ numberAt r 237 I8 = eqb-true _ _ (b .1 .0) in
+      let paired : numberAt r 281 I8 ≡ 2 * numberAt r 249 I8 = eqb-true _ _ (b .1 .1 .0) in
+      let room : 192 + numberAt r 281 I8 + numberAt r 289 I4 ≤ numberAt r 187 I6 = leb-true _ _ (b .1 .1 .1 .0) in
+      let channels : numberAt r 233 I4 ≡ 1 = let c = number-holds (at r 233 I4) (placeOf 233) 1 1 (row 3 (omega arith)) in omega arith in
+      let group : numberAt r 225 I4 ≡ 2 = let c = number-holds (at r 225 I4) (placeOf 225) 2 2 (row 2 (omega arith)) in omega arith in
+      record {
+        is = header-is 1 (codesOf 3 0) 720 r size .0 e;
+        ab = text-is r 12 (bytes "A ") (omega arith) .0 (h .0);
+        sort = text-is r 428 (bytes "IU2 ") (omega arith) .0 (h .1 .0);
+        n = number-is r 181 I6 (omega arith) refl 1 999999 (q .n) .0 (row 0 (omega arith), m .n);
+        L = number-is r 187 I6 (omega arith) refl 1 999999 (q .l) .0 (row 1 (omega arith), m .l);
+        group = number-is r 225 I4 (omega arith) refl 2 2 2 .0 (row 2 (omega arith), group);
+        channels = number-is r 233 I4 (omega arith) refl 1 1 1 .0 (row 3 (omega arith), channels);
+        lines = number-is r 237 I8 (omega arith) refl 1 99999999 (q .n) .0 (row 4 (omega arith), sym lines ∙ m .n);
+        w = number-is r 249 I8 (omega arith) refl 1 99999999 (q .w) .0 (row 5 (omega arith), m .w);
+        d = number-is r 281 I8 (omega arith) refl 1 99999999 (q .d) .0 (row 6 (omega arith), m .d);
+        s = number-is r 289 I4 (omega arith) refl 0 9999 (q .s) .0 (row 7 (omega arith), m .s);
+        paired = sym (m .d) ∙ paired ∙ ap (λ (x : ℕ). 2 * x) (m .w);
+        room = let a = m .d in let b = m .s in let c = m .l in omega arith;
+      }
+
+  numbers-from : ImageDescriptor r q → Holds (imageTests r) × Named r q
+  unfolding imageTests numbersTests agreements placeOf
+  numbers-from d =
+      let n1 = number-is r 181 I6 (omega arith) refl 1 999999 (q .n) .1 (d .n) in
+      let n2 = number-is r 187 I6 (omega arith) refl 1 999999 (q .l) .1 (d .L) in
+      let n3 = number-is r 225 I4 (omega arith) refl 2 2 2 .1 (d .group) in
+      let n4 = number-is r 233 I4 (omega arith) refl 1 1 1 .1 (d .channels) in
+      let n5 = number-is r 237 I8 (omega arith) refl 1 99999999 (q .n) .1 (d .lines) in
+      let n6 = number-is r 249 I8 (omega arith) refl 1 99999999 (q .w) .1 (d .w) in
+      let n7 = number-is r 281 I8 (omega arith) refl 1 99999999 (q .d) .1 (d .d) in
+      let n8 = number-is r 289 I4 (omega arith) refl 0 9999 (q .s) .1 (d .s) in
+      let a1 : numberAt r 181 I6 ≡ numberAt r 237 I8 = n1 .1 ∙ sym (n5 .1) in
+      let a2 : numberAt r 281 I8 ≡ 2 * numberAt r 249 I8 = n7 .1 ∙ d .paired ∙ ap (λ (x : ℕ). 2 * x) (sym (n6 .1)) in
+      let a3 : 192 + numberAt r 281 I8 + numberAt r 289 I4 ≤ numberAt r 187 I6 = omega (arith, n7 .1, n8 .1, n2 .1, d .room) in (
+        (
+          text-is r 12 (bytes "A ") (omega arith) .1 (d .ab),
+          (
+            text-is r 428 (bytes "IU2 ") (omega arith) .1 (d .sort),
+            holds-join (numbersTests r 3 11) (agreements r)
+                (n1 .0 .0, (n1 .0 .1 .0, (n2 .0 .0, (n2 .0 .1 .0, (n3 .0 .0, (n3 .0 .1 .0, (n4 .0 .0, (n4 .0 .1 .0, (n5 .0 .0, (n5 .0 .1 .0, (n6 .0 .0, (n6 .0 .1 .0, (n7 .0 .0, (n7 .0 .1 .0, (n8 .0 .0, (n8 .0 .1 .0, tt))))))))))))))))
+                (eq-eqb _ _ a1, (eq-eqb _ _ a2, (le-leb _ _ a3, tt))),
+          ),
+        ),
+        record { n = n1 .1; l = n2 .1; w = n6 .1; d = n7 .1; s = n8 .1 },
+      )
+
+pub image-is : (p q : Plan) (r : List ℕ) → length r ≡ 720
+    → ((headerOf 1 (codesOf 3 0) 720 r ≡ Fine) × (bodyOf 3 0 p 0 r ≡ Fine) × Named r q) ↔ ImageDescriptor r q
+unfolding bodyOf bodyTests imageRecord codesOf otherCodes
+image-is p q r size = (
+  λ h. numbers-to q r size (fine-holds (imageTests r) (h .1)) (h .0) (h .2),
+  λ d.
+      let n = numbers-from q r size d in
+      (header-is 1 (codesOf 3 0) 720 r size .1 (d .is), holds-fine (imageTests r) (n .0), n .1),
+)

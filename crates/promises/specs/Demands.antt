@@ -1,0 +1,67 @@
+-- The demands as predicates over any walk function, so that they can be held against wrong ones; and document 01's wrong programs ("How much each
+-- promise says"). Assumes nothing.
+use Prim.Native.Nat.{ℕ, zero, suc, _+_, _<_}
+use mathlib.Core.Path.{_≡_}
+use mathlib.Core.Logic.{_↔_}
+use mathlib.Core.Bool.{Bool, true, false}
+use mathlib.Core.List.{List, []}
+use lib.Dec.{eqb, leb}
+use lib.ListN.{length, take, drop}
+use Rattle.words.specs.Tests.{pick, bothOf}
+use Rattle.words.specs.declared.Refusal.{Refusal}
+use Rattle.plan.specs.Plan.{totalOf, firstLength}
+use Rattle.bodies.specs.Named.{planOf}
+use Rattle.walk.specs.Rule.{fresh, goodState, nextSpot}
+use Rattle.walk.specs.Turn.{walkOf, turnOf, nextOf, stopped, more, badStop, onTurn}
+use Rattle.walk.specs.declared.State.{State}
+use Rattle.walk.specs.declared.Stop.{Stop}
+use Rattle.walk.specs.declared.Stop.the-variants.{Wait, Pause, Complete, Refused}
+use Rattle.walk.specs.declared.Turn.{Turn}
+use Rattle.walk.specs.declared.Turn.the-variants.{Pass}
+use Rattle.walk.specs.declared.Walked.{Walked}
+use Rattle.promises.specs.Rules.{Kind, kindNumber, Accepted}
+
+-- a walk: budget, state, bytes, closed
+abbrev pub Walk : Type 0
+Walk = ℕ → State → List ℕ → Bool → Walked
+
+-- how many records the first record of these bytes promises
+abbrev pub plannedTotal : Kind → List ℕ → ℕ
+plannedTotal kind bs = totalOf (kindNumber kind) (planOf (kindNumber kind) (take (firstLength (kindNumber kind)) bs))
+
+-- demand 2: begun fresh, closed, with a budget above the planned records, it ends complete exactly on the files that the rules accept
+abbrev pub Demand2 : Walk → Type 0
+Demand2 W = (kind : Kind) (bs : List ℕ) (n : ℕ) → plannedTotal kind bs < n → (W n (fresh (kindNumber kind)) bs true .stop ≡ Complete) ↔ Accepted kind bs
+
+-- the count is the state's difference
+abbrev pub Counted : Walk → Type 0
+Counted W = (n : ℕ) (st : State) (bs : List ℕ) (c : Bool) → W n st bs c .state .passed ≡ st .passed + W n st bs c .count
+
+-- ---- wrong programs
+
+-- always refusing
+abbrev pub refuser : Refusal → Walk
+refuser r n st bs c = stopped st (Refused r)
+
+-- always waiting
+abbrev pub waiter : ℕ → Walk
+waiter m n st bs c = stopped st (Wait m)
+
+-- one fixed answer
+abbrev pub fixed : Walked → Walk
+fixed w n st bs c = w
+
+-- line 1 is checked and the rest waved through: an image's record behind line 1 passes as soon as it is whole
+abbrev pub wavedTurn : State → List ℕ → Bool → Turn
+wavedTurn st bs c =
+    pick (bothOf (bothOf (eqb (st .kind) 3) (leb 2 (st .passed))) (bothOf (leb (nextSpot st .length) (length bs)) (leb (suc (st .passed)) (totalOf (st .kind) (st .plan))))) Pass
+    (turnOf st bs c)
+
+unfoldable pub waver : Walk
+waver zero st bs c = pick (goodState st) (stopped st Pause) (stopped st badStop)
+waver (suc n) st bs c =
+    pick (goodState st) (onTurn (wavedTurn st bs c) st (more 1 (waver n (nextOf st bs) (drop (nextSpot st .length) bs) c))) (stopped st badStop)
+
+-- a made-up passed count: one more than there was
+abbrev pub boaster : Walk
+boaster n st bs c = more 1 (walkOf n st bs c)
