@@ -90,6 +90,9 @@ def edits() -> list[str]:
         text = log.read_text()
         if 'has no `Need-' in text or 'logic=not-proved' not in text:
             faults.append(f'{log.parent.parent.name}/{log.parent.name}: it only made a proof file unfit')
+        first = next((line for line in text.splitlines() if ': error' in line), '')
+        if 'is not in scope' in first:
+            faults.append(f'{log.parent.parent.name}/{log.parent.name}: it names what is not in scope')
     return faults
 
 

@@ -1,3 +1,4 @@
+-- The proofs of `promises`: the walk's judgements are the rules, and the three demands.
 pub mod Steps
 pub mod Turns
 pub mod Counted
@@ -7,7 +8,6 @@ pub mod Enough
 pub mod OneAnswer
 pub mod Starts
 pub mod Eleven
--- The proofs of `promises`: the walk's judgements are the rules.
 pub mod Parts
 pub mod Each
 pub mod FirstVolume
@@ -24,3 +24,12 @@ pub mod Accepts
 pub mod Trailer
 pub mod Decided
 pub mod Bites
+pub mod Made
+pub mod WitnessFirst
+pub mod WitnessLater
+pub mod Completed
+pub mod Own
+pub mod Arriving
+pub mod Ends
+pub mod BitesOpen
+pub mod PlanNamed

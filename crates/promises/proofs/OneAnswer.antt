@@ -1,9 +1,17 @@
--- No second answer fits the promise of begin, start, walk or step: each is an equation with a definition (the general lemma is `words`' `one-answer`).
+-- No second answer fits the promise of any entry point: each is an equation with a definition (the general lemma is `words`' `one-answer`).
 use Prim.Native.Nat.{ℕ}
 use mathlib.Core.Path.{_≡_}
 use mathlib.Core.List.{List}
 use mathlib.Core.Bool.{Bool}
 use Rattle.words.proofs.Laws.{one-answer}
+use Rattle.decimal.specs.Scan.{written}
+use Rattle.decimal.specs.declared.Form.{Form}
+use Rattle.fields.specs.Field.{fieldAt}
+use Rattle.fields.specs.Listed.{listedField}
+use Rattle.plan.specs.Plan.{planGood}
+use Rattle.plan.specs.declared.Plan.{Plan}
+use Rattle.bodies.specs.Bodies.{bodyOf}
+use Rattle.bodies.specs.Named.{planOf}
 use Rattle.walk.specs.Rule.{fresh, startOf}
 use Rattle.walk.specs.Turn.{walkOf, beginOf}
 use Rattle.walk.specs.declared.State.{State}
@@ -13,6 +21,12 @@ abbrev pub Only : {A : Type 0} → A → Type 0
 Only {A} d = (r r′ : A) → r ≡ d → r′ ≡ d → r ≡ r′
 
 pub record OneAnswer : Type 0 where
+  pub read : (k : Form) (bytes : List ℕ) → Only (written k bytes)
+  pub field-at : (bytes : List ℕ) (at : ℕ) (k : Form) → Only (fieldAt bytes at k)
+  pub listed-field : (bytes : List ℕ) (number : ℕ) → Only (listedField bytes number)
+  pub good : (kind : ℕ) (p : Plan) → Only (planGood kind p)
+  pub judge : (kind run : ℕ) (p : Plan) (k : ℕ) (bytes : List ℕ) → Only (bodyOf kind run p k bytes)
+  pub plan-of : (kind : ℕ) (bytes : List ℕ) → Only (planOf kind bytes)
   pub none : Only (fresh 0)
   pub begin : (kind : ℕ) → Only (beginOf kind)
   pub start : (st : State) → Only (startOf st)
@@ -22,6 +36,12 @@ pub record OneAnswer : Type 0 where
 pub one-answers : OneAnswer
 one-answers =
     record {
+      read = λ k bytes r r′ p q. one-answer p q;
+      field-at = λ bytes at k r r′ p q. one-answer p q;
+      listed-field = λ bytes number r r′ p q. one-answer p q;
+      good = λ kind p r r′ a q. one-answer a q;
+      judge = λ kind run p k bytes r r′ a q. one-answer a q;
+      plan-of = λ kind bytes r r′ p q. one-answer p q;
       none = λ r r′ p q. one-answer p q;
       begin = λ kind r r′ p q. one-answer p q;
       start = λ st r r′ p q. one-answer p q;

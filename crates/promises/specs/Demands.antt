@@ -20,6 +20,7 @@ use Rattle.walk.specs.declared.Turn.{Turn}
 use Rattle.walk.specs.declared.Turn.the-variants.{Pass}
 use Rattle.walk.specs.declared.Walked.{Walked}
 use Rattle.promises.specs.Rules.{Kind, kindNumber, Accepted}
+use Rattle.promises.specs.Arriving.{Starts, Waits, Refuses, AtRecordEnd}
 
 -- a walk: budget, state, bytes, closed
 abbrev pub Walk : Type 0
@@ -32,6 +33,11 @@ plannedTotal kind bs = totalOf (kindNumber kind) (planOf (kindNumber kind) (take
 -- demand 2: begun fresh, closed, with a budget above the planned records, it ends complete exactly on the files that the rules accept
 abbrev pub Demand2 : Walk → Type 0
 Demand2 W = (kind : Kind) (bs : List ℕ) (n : ℕ) → plannedTotal kind bs < n → (W n (fresh (kindNumber kind)) bs true .stop ≡ Complete) ↔ Accepted kind bs
+
+-- demand 3: begun fresh, open, without a pause, at a record's end, it waits exactly when some accepted file begins with the bytes and refuses exactly when none does
+abbrev pub Demand3 : Walk → Type 0
+Demand3 W = (kind : Kind) (bs : List ℕ) (n : ℕ) → (W n (fresh (kindNumber kind)) bs false .stop ≡ Pause → ⊥) → AtRecordEnd bs
+    → (Waits (W n (fresh (kindNumber kind)) bs false .stop) ↔ Starts kind bs) × (Refuses (W n (fresh (kindNumber kind)) bs false .stop) ↔ (Starts kind bs → ⊥))
 
 -- the count is the state's difference
 abbrev pub Counted : Walk → Type 0

@@ -2,4 +2,7 @@
 pub mod Rules
 pub mod Pieces
 pub mod Examples
+pub mod Bytes
+pub mod Arriving
 pub mod Demands
+pub mod Witness

@@ -1,0 +1,148 @@
+-- `arriving`: bytes that end at a record's end leave nothing unpassed when the walk waits, since a whole record's own length is the one that is due; so a wait comes exactly when some accepted file begins with them, a refusal exactly when none does.
+use Prim.Native.Nat.{ℕ, zero, suc, _+_, _-_, _≤_, _<_}
+use mathlib.Core.Path.{_≡_, refl, sym, ap, ap₂, _∙_, subst}
+use mathlib.Core.List.{List, [], _∷_, _++_}
+use mathlib.Core.Bool.{Bool, true, false}
+use mathlib.Core.Logic.{_↔_, _⊎_, inl, inr, ⊎-elim}
+use native.Mathlib.Omega.{arith}
+use lib.Dec.{eqb, leb, ltb}
+use lib.ListN.{length, getD, take, drop, length-append, List·getD-append}
+use lib.Seq.{drop-drop, drop-at, drop-append-add, length-take-le}
+use borrow.Author.Tests.{eqb-true, ltb-true, ltb-false}
+use Rattle.words.specs.Tests.{pick}
+use Rattle.words.specs.Words.{twoAt, fourAt, placeOf}
+use Rattle.words.proofs.Laws.{pick-true}
+use Rattle.plan.specs.Plan.{totalOf, codesOf, spotOf}
+use Rattle.plan.specs.declared.Codes.{Codes}
+use Rattle.bodies.specs.Bodies.{bodyOf}
+use Rattle.bodies.specs.declared.Verdict.{Verdict}
+use Rattle.bodies.specs.declared.Verdict.the-variants.{Fine, Fault}
+use Rattle.bodies.proofs.Holding.{fine-holds}
+use Rattle.walk.specs.Rule.{fresh, goodState, nextSpot, startOf}
+use Rattle.walk.specs.Turn.{refusedAt, endedOf, shortOf, onFine, headerTests, headerOf, judgeOf, turnOf, nextOf, stopped, more, badStop, walkOf}
+use Rattle.walk.specs.declared.State.{State}
+use Rattle.walk.specs.declared.Stop.{Stop}
+use Rattle.walk.specs.declared.Stop.the-variants.{Wait, Pause, Complete, Refused}
+use Rattle.walk.specs.declared.Turn.{Turn}
+use Rattle.walk.specs.declared.Turn.the-variants.{Pass, Halt}
+use Rattle.walk.specs.declared.Walked.{Walked}
+use Rattle.walk.proofs.TurnLaws.{pass-parts, pass-long}
+use Rattle.promises.specs.Rules.{Kind, kindNumber, Accepted, concat}
+use Rattle.promises.specs.Pieces.{usedOf}
+use Rattle.promises.specs.Arriving.{Own, begun, again, Starts, Waits, Refuses, Whole, Wholes, AtRecordEnd}
+use Rattle.promises.proofs.Steps.{by-turns}
+use Rattle.promises.proofs.Pieces.{used-within}
+use Rattle.promises.proofs.Starts.{start-advances}
+use Rattle.promises.proofs.Own.{Reached, reached}
+use Rattle.promises.proofs.Arriving.{arriving-any}
+
+-- a header that has no fault names the due length
+header-length : (o : ℕ) (c : Codes) (long : ℕ) (b : List ℕ) → headerOf o c long b ≡ Fine → fourAt b 8 ≡ long
+unfolding headerOf headerTests
+header-length o c long b e = let h = fine-holds (headerTests o c long b) e in eqb-true (fourAt b 8) long (h .1 .1 .0)
+
+-- the length field of a first part of at least twelve bytes
+front : (r z : List ℕ) → 12 ≤ length r → fourAt (r ++ z) 8 ≡ fourAt r 8
+unfolding fourAt twoAt
+front r z h =
+    rw (List·getD-append r z 0 8 (omega arith), List·getD-append r z 0 9 (omega arith), List·getD-append r z 0 10 (omega arith), List·getD-append r z 0 11 (omega arith))
+
+-- what an open turn that waits has seen
+waited : (x y z : Bool) (h t : Verdict) (o a left m₁ m₂ m : ℕ)
+    → pick x (Halt (endedOf o a left false)) (pick y (Halt (shortOf o a false m₁)) (onFine h o a (pick z (Halt (shortOf o a false m₂)) (onFine t o a Pass)))) ≡ Halt (Wait m)
+    → (left ≡ 0) ⊎ ((y ≡ true) ⊎ ((h ≡ Fine) × (z ≡ true)))
+unfolding endedOf shortOf
+waited true y z h t o a left m₁ m₂ m e = inl (go (eqb left 0) refl e)
+  where
+    go : (b : Bool) → eqb left 0 ≡ b → Halt (pick b (Wait 0) (refusedAt o a 9 0)) ≡ Halt (Wait m) → left ≡ 0
+    go true q f = eqb-true left 0 q
+    go false q f = let w : _≡_ {A = ℕ} 0 1 = cc in absurd (omega arith)
+waited false true z h t o a left m₁ m₂ m e = inr (inl refl)
+waited false false z (Fault n p) t o a left m₁ m₂ m e = let w : _≡_ {A = ℕ} 0 1 = cc in absurd (omega arith)
+waited false false true Fine t o a left m₁ m₂ m e = inr (inr (refl, refl))
+waited false false false Fine Fine o a left m₁ m₂ m e = let w : _≡_ {A = ℕ} 0 1 = cc in absurd (omega arith)
+waited false false false Fine (Fault n p) o a left m₁ m₂ m e = let w : _≡_ {A = ℕ} 0 1 = cc in absurd (omega arith)
+
+-- before a whole record no turn waits
+no-wait : (st : State) (r z : List ℕ) → Whole r → (m : ℕ) → turnOf st (r ++ z) false ≡ Halt (Wait m) → ⊥
+unfolding judgeOf placeOf
+no-wait st r z w m e =
+    let l = w .0 in
+    let n = length-append r z in
+    ⊎-elim (λ k. omega arith)
+    (⊎-elim (λ k. let s = ltb-true (length (r ++ z)) 12 k in omega arith)
+    (λ k.
+    let q : fourAt (r ++ z) 8 ≡ nextSpot st .length = header-length (st .passed + 1) (codesOf (st .kind) (nextSpot st .run)) (nextSpot st .length) (r ++ z) (k .0) in
+    let s = ltb-true (length (r ++ z)) (nextSpot st .length) (k .1) in
+    omega (arith, front r z l, w .1)))
+    (waited (leb (totalOf (st .kind) (st .plan)) (st .passed)) _ _ _ (bodyOf (st .kind) (nextSpot st .run) (st .plan) (st .passed) (take (nextSpot st .length) (r ++ z))) (st .passed + 1) (nextSpot st .start) (length (r ++ z)) (12 - length (r ++ z)) (nextSpot st .length - length (r ++ z)) m e)
+
+-- ---- bytes that are whole records leave nothing unpassed when the walk waits
+
+Nothing : ℕ → State → List ℕ → Walked → ℕ → Type 0
+Nothing n st y w u = (rs : List (List ℕ)) → concat rs ≡ y → Wholes rs → Waits (w .stop) → drop u y ≡ []
+
+nothing-halt : (n : ℕ) (st : State) (y : List ℕ) (x : Stop) → goodState st ≡ true → turnOf st y false ≡ Halt x → Nothing (suc n) st y (stopped st x) 0
+unfolding Nothing
+nothing-halt n st y x g t [] e h (m, q) = sym e
+nothing-halt n st y x g t (r ∷ rs) e h (m, q) = absurd (no-wait st r (concat rs) (h .0) m (ap (λ (b : List ℕ). turnOf st b false) e ∙ t ∙ ap Halt q))
+
+nothing-pass : (n : ℕ) (st : State) (y : List ℕ) (w : Walked) (u : ℕ) → goodState st ≡ true → turnOf st y false ≡ Pass
+    → Nothing n (nextOf st y) (drop (nextSpot st .length) y) w u → Nothing (suc n) st y (more 1 w) (nextSpot st .length + u)
+unfolding Nothing placeOf
+nothing-pass n st y w u g t ih [] e h k =
+    let q = pass-parts (st .kind) (st .plan) (st .passed) (nextSpot st) y false t in
+    let z = ltb-false (length y) 12 (q .twelve) in
+    absurd (omega (arith, ap length e))
+nothing-pass n st y w u g t ih (r ∷ rs) e h k =
+    let q = pass-parts (st .kind) (st .plan) (st .passed) (nextSpot st) y false t in
+    let s : length r ≡ nextSpot st .length = sym (h .0 .1) ∙ sym (front r (concat rs) (h .0 .0)) ∙ ap (λ (b : List ℕ). fourAt b 8) e ∙ header-length _ _ _ y (q .head) in
+    let d : concat rs ≡ drop (nextSpot st .length) y = sym (drop-at r (concat rs) (nextSpot st .length) s) ∙ ap (drop (nextSpot st .length)) e in
+    sym (drop-drop u (nextSpot st .length) y) ∙ ih rs d (h .1) k
+
+wait≢ : (m : ℕ) (x : Stop) → x ≡ Wait m → x ≡ badStop → ⊥
+unfolding badStop
+wait≢ m x e f = let z : _≡_ {A = ℕ} 0 1 = cc in omega arith
+
+nothing-left : (b : ℕ) (st : State) (bs : List ℕ) (rs : List (List ℕ)) → concat rs ≡ bs → Wholes rs → Waits (walkOf b st bs false .stop) → drop (usedOf b st bs false) bs ≡ []
+unfolding Nothing
+nothing-left =
+    by-turns false Nothing (λ n s y g rs e h k. absurd (wait≢ (k .0) badStop (k .1) refl))
+    (λ s y g rs e h k. absurd (let q = k .1 in let z : _≡_ {A = ℕ} 0 1 = cc in omega arith)) nothing-halt nothing-pass
+
+-- ---- a state of one's own stands as far on as its calls passed
+
+fresh-start : (kind : Kind) → startOf (fresh (kindNumber kind)) ≡ 0
+unfolding startOf spotOf
+fresh-start kind = go (goodState (fresh (kindNumber kind)))
+  where
+    go : (b : Bool) → _≡_ {A = ℕ} (pick b 0 0) 0
+    go true = refl
+    go false = refl
+
+own-start : (kind : Kind) {st : State} {pre : List ℕ} → Own kind st pre → startOf st ≡ length pre
+own-start kind begun = fresh-start kind
+own-start kind (again {st} {pre} o b bs c) =
+    start-advances b st bs c
+    ∙ ap₂ (λ (i j : ℕ). i + j) (own-start kind o) (sym (length-take-le (usedOf b st bs c) bs (used-within b st bs c)))
+    ∙ sym (length-append pre (take (usedOf b st bs c) bs))
+
+-- the bytes from the file's first byte on end at a record's end: a wait leaves none unpassed
+left-none : (kind : Kind) {st : State} {pre : List ℕ} → Own kind st pre → (b : ℕ) (bs : List ℕ) → AtRecordEnd (pre ++ bs)
+    → Waits (walkOf b st bs false .stop) → drop (usedOf b st bs false) bs ≡ []
+left-none kind {st} {pre} o b bs (rs, e, h) (m, q) =
+    let r = reached kind o in
+    let f = fresh (kindNumber kind) in
+    let w = r .walks b bs false in
+    let n = nothing-left (r .passed + b) f (pre ++ bs) rs e h (m, ap (λ (x : Walked). x .stop) w ∙ q) in
+    let s₁ = start-advances (r .passed + b) f (pre ++ bs) false in
+    let s₂ = start-advances b st bs false in
+    let s₃ = ap (λ (x : Walked). startOf (x .state)) w in
+    let u : usedOf (r .passed + b) f (pre ++ bs) false ≡ length pre + usedOf b st bs false = omega (arith, s₁, s₂, s₃, fresh-start kind, own-start kind o) in
+    sym (drop-append-add pre bs (usedOf b st bs false)) ∙ ap (λ (i : ℕ). drop i (pre ++ bs)) (sym u) ∙ n
+
+-- began fresh, only its own states, the last call open, no pause, at a record's end
+pub arriving : (kind : Kind) {st : State} {pre : List ℕ} → Own kind st pre → (b : ℕ) (bs : List ℕ)
+    → (walkOf b st bs false .stop ≡ Pause → ⊥) → AtRecordEnd (pre ++ bs)
+    → (Waits (walkOf b st bs false .stop) ↔ Starts kind (pre ++ bs)) × (Refuses (walkOf b st bs false .stop) ↔ (Starts kind (pre ++ bs) → ⊥))
+arriving kind o b bs p a = arriving-any kind o b bs p (left-none kind o b bs a)

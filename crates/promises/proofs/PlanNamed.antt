@@ -1,0 +1,78 @@
+-- `plan-named`: behind the first record the state's plan is the numbers that the rules name in it, since the record that passed is a first record of the rules.
+use Prim.Native.Nat.{ℕ, zero, suc, _+_, _≤_}
+use mathlib.Core.Path.{_≡_, refl, sym, ap, _∙_, subst}
+use mathlib.Core.Bool.{Bool, true, false}
+use mathlib.Core.List.{List}
+use native.Mathlib.Omega.{arith}
+use lib.ListN.{length, take, drop}
+use lib.Seq.{length-take-le}
+use Rattle.plan.specs.Plan.{firstLength, spotOf, zeroPlan, codesOf}
+use Rattle.plan.specs.declared.Plan.{Plan}
+use Rattle.bodies.specs.Bodies.{bodyOf}
+use Rattle.bodies.specs.Named.{planOf}
+use Rattle.bodies.specs.declared.Verdict.the-variants.{Fine}
+use Rattle.walk.specs.Rule.{fresh, goodState, nextSpot}
+use Rattle.walk.specs.Turn.{turnOf, nextOf, headerOf, walkOf, stopped, more, badStop}
+use Rattle.walk.specs.declared.State.{State}
+use Rattle.walk.specs.declared.Stop.the-variants.{Pause}
+use Rattle.walk.specs.declared.Turn.{Turn}
+use Rattle.walk.specs.declared.Turn.the-variants.{Pass, Halt}
+use Rattle.walk.specs.declared.Walked.{Walked}
+use Rattle.walk.proofs.LoopLaws.{walk-bad, walk-halt, walk-pass, walk-pause}
+use Rattle.walk.proofs.TurnLaws.{pass-parts, pass-long}
+use mathlib.Core.Logic.{_⊎_, inl, inr}
+use lib.Dec.{eqb}
+use borrow.Author.Tests.{ne-eqb}
+use Rattle.words.specs.Tests.{pick}
+use Rattle.words.proofs.Laws.{cases}
+use Rattle.promises.proofs.Steps.{by-turns}
+use Rattle.promises.specs.Rules.{Kind, volume, leader, image, trailer, kindNumber, First}
+use Rattle.promises.proofs.Parts.{header-take}
+use Rattle.promises.proofs.Least.{first-least}
+use Rattle.promises.proofs.FirstIs.{Fault-free, first-is}
+
+-- the first record that passed, by the rules
+pub first-passed : (kind : Kind) (bs : List ℕ) (c : Bool) → turnOf (fresh (kindNumber kind)) bs c ≡ Pass
+    → First kind (take (firstLength (kindNumber kind)) bs) (nextOf (fresh (kindNumber kind)) bs .plan)
+unfolding nextOf spotOf
+first-passed kind bs c t =
+    let k = kindNumber kind in
+    let l = firstLength k in
+    let q = pass-parts k zeroPlan 0 (nextSpot (fresh k)) bs c t in
+    let long : l ≤ length bs = pass-long k zeroPlan 0 (nextSpot (fresh k)) bs c t in
+    first-is kind zeroPlan (take l bs) (length-take-le l bs long) .0 (record { head = header-take 1 (codesOf k 0) l l bs (first-least kind) ∙ q .head; body = q .body })
+
+next-passed : (s : State) (y : List ℕ) → nextOf s y .passed ≡ s .passed + 1
+unfolding nextOf
+next-passed s y = refl
+
+next-plan : (s : State) (y : List ℕ) → (s .passed ≡ 0 → ⊥) → nextOf s y .plan ≡ s .plan
+unfolding nextOf
+next-plan s y h = ap (λ (b : Bool). pick b (planOf (s .kind) (take (nextSpot s .length) y)) (s .plan)) (ne-eqb (s .passed) 0 h)
+
+-- behind a first record the plan stays
+pub plan-kept : (b : ℕ) (st : State) (bs : List ℕ) (c : Bool) → (st .passed ≡ 0 → ⊥) → walkOf b st bs c .state .plan ≡ st .plan
+plan-kept b st bs c =
+    by-turns c (λ n s y w u. (s .passed ≡ 0 → ⊥) → w .state .plan ≡ s .plan) (λ n s y g h. refl) (λ s y g h. refl) (λ n s y x g t h. refl)
+    (λ n s y w u g t i h. i (λ e. let q = next-passed s y in omega arith) ∙ next-plan s y h) b st bs
+
+-- a walk begun fresh that has passed a record: its plan is the numbers that the rules name in the file's first record
+pub plan-named : (kind : Kind) (bs : List ℕ) (c : Bool) (n : ℕ) → (walkOf n (fresh (kindNumber kind)) bs c .count ≡ 0 → ⊥)
+    → First kind (take (firstLength (kindNumber kind)) bs) (walkOf n (fresh (kindNumber kind)) bs c .state .plan)
+plan-named kind bs c n h = go n h (cases (goodState st)) (turnOf st bs c) refl
+  where
+    st : State
+    st = fresh (kindNumber kind)
+
+    count-of : (w v : Walked) → w ≡ v → v .count ≡ 0 → w .count ≡ 0
+    count-of w v e z = ap (λ (x : Walked). x .count) e ∙ z
+
+    go : (m : ℕ) → (walkOf m st bs c .count ≡ 0 → ⊥) → (goodState st ≡ true) ⊎ (goodState st ≡ false) → (t : Turn) → turnOf st bs c ≡ t
+        → First kind (take (firstLength (kindNumber kind)) bs) (walkOf m st bs c .state .plan)
+    go m k (inr g) t e = absurd (k (count-of _ _ (walk-bad st bs c m g) refl))
+    go zero k (inl g) t e = absurd (k (count-of _ _ (walk-pause st bs c g) refl))
+    go (suc m) k (inl g) (Halt x) e = absurd (k (count-of _ _ (walk-halt st bs c m x g e) refl))
+    go (suc m) k (inl g) Pass e =
+        let p : walkOf (suc m) st bs c .state .plan ≡ nextOf st bs .plan =
+        ap (λ (w : Walked). w .state .plan) (walk-pass st bs c m g e) ∙ plan-kept m (nextOf st bs) (drop (nextSpot st .length) bs) c (λ z. let o = next-passed st bs in omega arith) in
+        subst (λ (q : Plan). First kind (take (firstLength (kindNumber kind)) bs) q) (sym p) (first-passed kind bs c e)

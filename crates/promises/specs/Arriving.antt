@@ -1,0 +1,44 @@
+-- While a file arrives: the states that a walk begun fresh hands back over any number of calls, and that some accepted file begins with bytes. Assumes nothing.
+use Prim.Native.Nat.{ℕ, _≤_}
+use mathlib.Core.List.{List, [], _∷_, _++_}
+use mathlib.Core.Bool.{Bool}
+use lib.ListN.{length, take}
+use Rattle.words.specs.Words.{fourAt, placeOf}
+use Rattle.walk.specs.Rule.{fresh}
+use Rattle.walk.specs.Turn.{walkOf}
+use Rattle.walk.specs.declared.State.{State}
+use Rattle.walk.specs.declared.Stop.{Stop}
+use Rattle.walk.specs.declared.Stop.the-variants.{Wait, Refused}
+use Rattle.words.specs.declared.Refusal.{Refusal}
+use mathlib.Core.Path.{_≡_}
+use Rattle.promises.specs.Rules.{Kind, kindNumber, Accepted, concat}
+use Rattle.promises.specs.Pieces.{usedOf}
+use Rattle.promises.specs.Bytes.{Bytes}
+
+-- a state that calls begun fresh handed back, any number of them, with any budgets, open or closed, each on any bytes; and the bytes that they passed, from the file's first byte on
+pub data Own (kind : Kind) : State → List ℕ → Type 0 where
+  begun : Own kind (fresh (kindNumber kind)) []
+  again : {st : State} {pre : List ℕ} → Own kind st pre → (b : ℕ) (bs : List ℕ) (c : Bool) → Own kind (walkOf b st bs c .state) (pre ++ take (usedOf b st bs c) bs)
+
+-- some accepted file of that kind begins with these bytes
+abbrev pub Starts : Kind → List ℕ → Type 0
+Starts kind bs = (ys : List ℕ) × Bytes ys × Accepted kind (bs ++ ys)
+
+-- the stop is a wait, or a refusal
+abbrev pub Waits : Stop → Type 0
+Waits x = (n : ℕ) × (x ≡ Wait n)
+
+abbrev pub Refuses : Stop → Type 0
+Refuses x = (r : Refusal) × (x ≡ Refused r)
+
+-- a record by its own header: at least twelve bytes, and as many as its bytes 9 to 12 say
+abbrev pub Whole : List ℕ → Type 0
+Whole r = (12 ≤ length r) × (fourAt r (placeOf 9) ≡ length r)
+
+abbrev pub Wholes : List (List ℕ) → Type 0
+Wholes [] = Unit {0}
+Wholes (r ∷ rs) = Whole r × Wholes rs
+
+-- the bytes are empty or end at a record's end: they are whole records, end to end
+abbrev pub AtRecordEnd : List ℕ → Type 0
+AtRecordEnd bs = (rs : List (List ℕ)) × (concat rs ≡ bs) × Wholes rs
