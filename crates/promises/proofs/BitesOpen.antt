@@ -3,6 +3,7 @@ use Prim.Native.Nat.{ℕ, _<_}
 use mathlib.Core.Path.{_≡_, refl, sym, ap, _∙_, subst}
 use mathlib.Core.Bool.{true, false}
 use mathlib.Core.List.{List, [], _∷_, _++_}
+use mathlib.Core.Logic.{inl}
 use native.Mathlib.Omega.{arith}
 use lib.ListN.{length}
 use Rattle.words.specs.declared.Refusal.{Refusal}
@@ -14,7 +15,7 @@ use Rattle.walk.specs.Rule.{fresh, goodState}
 use Rattle.walk.specs.Turn.{walkOf, judgeOf, headerOf, headerTests}
 use Rattle.walk.specs.declared.Stop.the-variants.{Wait, Pause, Complete, Refused}
 use Rattle.promises.specs.Rules.{Kind, trailer, kindNumber}
-use Rattle.promises.specs.Arriving.{Own, begun, Starts, Waits, Refuses, Wholes, AtRecordEnd}
+use Rattle.promises.specs.Arriving.{Own, begun, Starts, Waits, Refuses, AtRecordEnd}
 use Rattle.promises.specs.Bytes.{Bytes}
 use Rattle.promises.specs.Demands.{Demand3, refuser, waiter}
 use Rattle.promises.proofs.Arriving.{refused-none}
@@ -29,9 +30,9 @@ ours-open kind bs n p a = arriving kind begun n bs p a
 strange : List ℕ
 strange = 0 ∷ 0 ∷ 0 ∷ 7 ∷ 63 ∷ 192 ∷ 18 ∷ 18 ∷ 0 ∷ 0 ∷ 0 ∷ 12 ∷ []
 
-strange-end : AtRecordEnd strange
+strange-end : AtRecordEnd trailer strange
 unfolding strange fourAt twoAt placeOf
-strange-end = (strange ∷ [], refl, ((omega arith, refl), tt))
+strange-end = (strange ∷ [], refl, (omega arith, (inl refl, tt)))
 
 strange-refused : Refuses (walkOf 9 (fresh 4) strange false .stop)
 unfolding strange fourAt twoAt placeOf otherCodes totalOf sumOf runCounts runLengths firstLength spotOf codesOf allZero zeroPlan? goodState walkOf judgeOf headerOf headerTests firstFault

@@ -1,4 +1,4 @@
--- `arriving`: bytes that end at a record's end leave nothing unpassed when the walk waits, since a whole record's own length is the one that is due; so a wait comes exactly when some accepted file begins with them, a refusal exactly when none does.
+-- `arriving`: bytes that end at a record's end leave nothing unpassed when the walk waits, since a record that is whole by its own length, or as long as is due, is never waited for; so a wait comes exactly when some accepted file begins with them, a refusal exactly when none does.
 use Prim.Native.Nat.{ℕ, zero, suc, _+_, _-_, _≤_, _<_}
 use mathlib.Core.Path.{_≡_, refl, sym, ap, ap₂, _∙_, subst}
 use mathlib.Core.List.{List, [], _∷_, _++_}
@@ -7,13 +7,15 @@ use mathlib.Core.Logic.{_↔_, _⊎_, inl, inr, ⊎-elim}
 use native.Mathlib.Omega.{arith}
 use lib.Dec.{eqb, leb, ltb}
 use lib.ListN.{length, getD, take, drop, length-append, List·getD-append}
-use lib.Seq.{drop-drop, drop-at, drop-append-add, length-take-le}
+use lib.Seq.{take-at, drop-drop, drop-at, drop-append-add, length-take-le}
 use borrow.Author.Tests.{eqb-true, ltb-true, ltb-false}
 use Rattle.words.specs.Tests.{pick}
 use Rattle.words.specs.Words.{twoAt, fourAt, placeOf}
 use Rattle.words.proofs.Laws.{pick-true}
 use Rattle.plan.specs.Plan.{totalOf, codesOf, spotOf}
 use Rattle.plan.specs.declared.Codes.{Codes}
+use Rattle.plan.specs.declared.Plan.{Plan}
+use Rattle.bodies.specs.Named.{planOf}
 use Rattle.bodies.specs.Bodies.{bodyOf}
 use Rattle.bodies.specs.declared.Verdict.{Verdict}
 use Rattle.bodies.specs.declared.Verdict.the-variants.{Fine, Fault}
@@ -29,7 +31,7 @@ use Rattle.walk.specs.declared.Walked.{Walked}
 use Rattle.walk.proofs.TurnLaws.{pass-parts, pass-long}
 use Rattle.promises.specs.Rules.{Kind, kindNumber, Accepted, concat}
 use Rattle.promises.specs.Pieces.{usedOf}
-use Rattle.promises.specs.Arriving.{Own, begun, again, Starts, Waits, Refuses, Whole, Wholes, AtRecordEnd}
+use Rattle.promises.specs.Arriving.{Own, begun, again, Starts, Waits, Refuses, Chunks, AtRecordEnd}
 use Rattle.promises.proofs.Steps.{by-turns}
 use Rattle.promises.proofs.Pieces.{used-within}
 use Rattle.promises.proofs.Starts.{start-advances}
@@ -63,8 +65,12 @@ waited false false true Fine t o a left m₁ m₂ m e = inr (inr (refl, refl))
 waited false false false Fine Fine o a left m₁ m₂ m e = let w : _≡_ {A = ℕ} 0 1 = cc in absurd (omega arith)
 waited false false false Fine (Fault n p) o a left m₁ m₂ m e = let w : _≡_ {A = ℕ} 0 1 = cc in absurd (omega arith)
 
--- before a whole record no turn waits
-no-wait : (st : State) (r z : List ℕ) → Whole r → (m : ℕ) → turnOf st (r ++ z) false ≡ Halt (Wait m) → ⊥
+-- a chunk of the state's next record: whole by its own header, or as long as is due
+abbrev Chunk : State → List ℕ → Type 0
+Chunk st r = (12 ≤ length r) × ((fourAt r (placeOf 9) ≡ length r) ⊎ (length r ≡ nextSpot st .length))
+
+-- before a chunk no turn waits
+no-wait : (st : State) (r z : List ℕ) → Chunk st r → (m : ℕ) → turnOf st (r ++ z) false ≡ Halt (Wait m) → ⊥
 unfolding judgeOf placeOf
 no-wait st r z w m e =
     let l = w .0 in
@@ -74,37 +80,49 @@ no-wait st r z w m e =
     (λ k.
     let q : fourAt (r ++ z) 8 ≡ nextSpot st .length = header-length (st .passed + 1) (codesOf (st .kind) (nextSpot st .run)) (nextSpot st .length) (r ++ z) (k .0) in
     let s = ltb-true (length (r ++ z)) (nextSpot st .length) (k .1) in
-    omega (arith, front r z l, w .1)))
-    (waited (leb (totalOf (st .kind) (st .plan)) (st .passed)) _ _ _ (bodyOf (st .kind) (nextSpot st .run) (st .plan) (st .passed) (take (nextSpot st .length) (r ++ z))) (st .passed + 1) (nextSpot st .start) (length (r ++ z)) (12 - length (r ++ z)) (nextSpot st .length - length (r ++ z)) m e)
+    ⊎-elim (λ o. omega (arith, front r z l)) (λ o. omega arith) (w .1)))
+    (waited (leb (totalOf (st .kind) (st .plan)) (st .passed)) _ _ _ (bodyOf (st .kind) (nextSpot st .run) (st .plan) (st .passed) (take (nextSpot st .length) (r ++ z)))
+    (st .passed + 1) (nextSpot st .start) (length (r ++ z)) (12 - length (r ++ z)) (nextSpot st .length - length (r ++ z)) m e)
 
--- ---- bytes that are whole records leave nothing unpassed when the walk waits
+-- ---- bytes that are chunks leave nothing unpassed when the walk waits
 
 Nothing : ℕ → State → List ℕ → Walked → ℕ → Type 0
-Nothing n st y w u = (rs : List (List ℕ)) → concat rs ≡ y → Wholes rs → Waits (w .stop) → drop u y ≡ []
+Nothing n st y w u = (rs : List (List ℕ)) → concat rs ≡ y → Chunks (st .kind) (st .plan) (st .passed) rs → Waits (w .stop) → drop u y ≡ []
 
 nothing-halt : (n : ℕ) (st : State) (y : List ℕ) (x : Stop) → goodState st ≡ true → turnOf st y false ≡ Halt x → Nothing (suc n) st y (stopped st x) 0
 unfolding Nothing
 nothing-halt n st y x g t [] e h (m, q) = sym e
-nothing-halt n st y x g t (r ∷ rs) e h (m, q) = absurd (no-wait st r (concat rs) (h .0) m (ap (λ (b : List ℕ). turnOf st b false) e ∙ t ∙ ap Halt q))
+nothing-halt n st y x g t (r ∷ rs) e h (m, q) = absurd (no-wait st r (concat rs) (h .0, h .1 .0) m (ap (λ (b : List ℕ). turnOf st b false) e ∙ t ∙ ap Halt q))
+
+-- the plan behind a chunk that is the whole next record
+next-chunk : (st : State) (r z : List ℕ) → length r ≡ nextSpot st .length → nextOf st (r ++ z) .plan ≡ pick (eqb (st .passed) 0) (planOf (st .kind) r) (st .plan)
+unfolding nextOf
+next-chunk st r z e = ap (λ (y : List ℕ). pick (eqb (st .passed) 0) (planOf (st .kind) y) (st .plan)) (take-at r z (nextSpot st .length) e)
+
+next-rest : (st : State) (y : List ℕ) → (nextOf st y .kind ≡ st .kind) × (nextOf st y .passed ≡ st .passed + 1)
+unfolding nextOf
+next-rest st y = (refl, refl)
 
 nothing-pass : (n : ℕ) (st : State) (y : List ℕ) (w : Walked) (u : ℕ) → goodState st ≡ true → turnOf st y false ≡ Pass
     → Nothing n (nextOf st y) (drop (nextSpot st .length) y) w u → Nothing (suc n) st y (more 1 w) (nextSpot st .length + u)
-unfolding Nothing placeOf
+unfolding Nothing placeOf nextOf
 nothing-pass n st y w u g t ih [] e h k =
     let q = pass-parts (st .kind) (st .plan) (st .passed) (nextSpot st) y false t in
     let z = ltb-false (length y) 12 (q .twelve) in
     absurd (omega (arith, ap length e))
 nothing-pass n st y w u g t ih (r ∷ rs) e h k =
     let q = pass-parts (st .kind) (st .plan) (st .passed) (nextSpot st) y false t in
-    let s : length r ≡ nextSpot st .length = sym (h .0 .1) ∙ sym (front r (concat rs) (h .0 .0)) ∙ ap (λ (b : List ℕ). fourAt b 8) e ∙ header-length _ _ _ y (q .head) in
+    let s : length r ≡ nextSpot st .length =
+    ⊎-elim (λ o. sym o ∙ sym (front r (concat rs) (h .0)) ∙ ap (λ (b : List ℕ). fourAt b 8) e ∙ header-length _ _ _ y (q .head)) (λ o. o) (h .1 .0) in
     let d : concat rs ≡ drop (nextSpot st .length) y = sym (drop-at r (concat rs) (nextSpot st .length) s) ∙ ap (drop (nextSpot st .length)) e in
-    sym (drop-drop u (nextSpot st .length) y) ∙ ih rs d (h .1) k
+    let p : nextOf st y .plan ≡ pick (eqb (st .passed) 0) (planOf (st .kind) r) (st .plan) = ap (λ (b : List ℕ). nextOf st b .plan) (sym e) ∙ next-chunk st r (concat rs) s in
+    sym (drop-drop u (nextSpot st .length) y) ∙ ih rs d (subst (λ (x : Plan). Chunks (st .kind) x (st .passed + 1) rs) (sym p) (h .1 .1)) k
 
 wait≢ : (m : ℕ) (x : Stop) → x ≡ Wait m → x ≡ badStop → ⊥
 unfolding badStop
 wait≢ m x e f = let z : _≡_ {A = ℕ} 0 1 = cc in omega arith
 
-nothing-left : (b : ℕ) (st : State) (bs : List ℕ) (rs : List (List ℕ)) → concat rs ≡ bs → Wholes rs → Waits (walkOf b st bs false .stop) → drop (usedOf b st bs false) bs ≡ []
+nothing-left : (b : ℕ) (st : State) (bs : List ℕ) (rs : List (List ℕ)) → concat rs ≡ bs → Chunks (st .kind) (st .plan) (st .passed) rs → Waits (walkOf b st bs false .stop) → drop (usedOf b st bs false) bs ≡ []
 unfolding Nothing
 nothing-left =
     by-turns false Nothing (λ n s y g rs e h k. absurd (wait≢ (k .0) badStop (k .1) refl))
@@ -128,7 +146,7 @@ own-start kind (again {st} {pre} o b bs c) =
     ∙ sym (length-append pre (take (usedOf b st bs c) bs))
 
 -- the bytes from the file's first byte on end at a record's end: a wait leaves none unpassed
-left-none : (kind : Kind) {st : State} {pre : List ℕ} → Own kind st pre → (b : ℕ) (bs : List ℕ) → AtRecordEnd (pre ++ bs)
+left-none : (kind : Kind) {st : State} {pre : List ℕ} → Own kind st pre → (b : ℕ) (bs : List ℕ) → AtRecordEnd kind (pre ++ bs)
     → Waits (walkOf b st bs false .stop) → drop (usedOf b st bs false) bs ≡ []
 left-none kind {st} {pre} o b bs (rs, e, h) (m, q) =
     let r = reached kind o in
@@ -143,6 +161,6 @@ left-none kind {st} {pre} o b bs (rs, e, h) (m, q) =
 
 -- began fresh, only its own states, the last call open, no pause, at a record's end
 pub arriving : (kind : Kind) {st : State} {pre : List ℕ} → Own kind st pre → (b : ℕ) (bs : List ℕ)
-    → (walkOf b st bs false .stop ≡ Pause → ⊥) → AtRecordEnd (pre ++ bs)
+    → (walkOf b st bs false .stop ≡ Pause → ⊥) → AtRecordEnd kind (pre ++ bs)
     → (Waits (walkOf b st bs false .stop) ↔ Starts kind (pre ++ bs)) × (Refuses (walkOf b st bs false .stop) ↔ (Starts kind (pre ++ bs) → ⊥))
 arriving kind o b bs p a = arriving-any kind o b bs p (left-none kind o b bs a)

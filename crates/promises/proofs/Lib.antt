@@ -33,3 +33,4 @@ pub mod Arriving
 pub mod Ends
 pub mod BitesOpen
 pub mod PlanNamed
+pub mod Records

@@ -1,9 +1,15 @@
 -- While a file arrives: the states that a walk begun fresh hands back over any number of calls, and that some accepted file begins with bytes. Assumes nothing.
-use Prim.Native.Nat.{ℕ, _≤_}
+use Prim.Native.Nat.{ℕ, _+_, _≤_}
 use mathlib.Core.List.{List, [], _∷_, _++_}
 use mathlib.Core.Bool.{Bool}
 use lib.ListN.{length, take}
+use lib.Dec.{eqb}
+use mathlib.Core.Logic.{_⊎_}
+use Rattle.words.specs.Tests.{pick}
 use Rattle.words.specs.Words.{fourAt, placeOf}
+use Rattle.plan.specs.Plan.{spotOf, zeroPlan}
+use Rattle.plan.specs.declared.Plan.{Plan}
+use Rattle.bodies.specs.Named.{planOf}
 use Rattle.walk.specs.Rule.{fresh}
 use Rattle.walk.specs.Turn.{walkOf}
 use Rattle.walk.specs.declared.State.{State}
@@ -31,14 +37,14 @@ Waits x = (n : ℕ) × (x ≡ Wait n)
 abbrev pub Refuses : Stop → Type 0
 Refuses x = (r : Refusal) × (x ≡ Refused r)
 
--- a record by its own header: at least twelve bytes, and as many as its bytes 9 to 12 say
-abbrev pub Whole : List ℕ → Type 0
-Whole r = (12 ≤ length r) × (fourAt r (placeOf 9) ≡ length r)
+-- chunks of at least twelve bytes, each of the size that its own bytes 9 to 12 say or of the length that the rules name for that record: record k under the plan p,
+-- which the first chunk names
+abbrev pub Chunks : ℕ → Plan → ℕ → List (List ℕ) → Type 0
+Chunks kind p k [] = Unit {0}
+Chunks kind p k (r ∷ rs) =
+    (12 ≤ length r)
+    × (((fourAt r (placeOf 9) ≡ length r) ⊎ (length r ≡ spotOf kind p k .length)) × Chunks kind (pick (eqb k 0) (planOf kind r) p) (k + 1) rs)
 
-abbrev pub Wholes : List (List ℕ) → Type 0
-Wholes [] = Unit {0}
-Wholes (r ∷ rs) = Whole r × Wholes rs
-
--- the bytes are empty or end at a record's end: they are whole records, end to end
-abbrev pub AtRecordEnd : List ℕ → Type 0
-AtRecordEnd bs = (rs : List (List ℕ)) × (concat rs ≡ bs) × Wholes rs
+-- the bytes, from the file's first byte on, are empty or end at a record's end
+abbrev pub AtRecordEnd : Kind → List ℕ → Type 0
+AtRecordEnd kind bs = (rs : List (List ℕ)) × (concat rs ≡ bs) × Chunks (kindNumber kind) zeroPlan 0 rs

@@ -36,7 +36,7 @@ Demand2 W = (kind : Kind) (bs : List ℕ) (n : ℕ) → plannedTotal kind bs < n
 
 -- demand 3: begun fresh, open, without a pause, at a record's end, it waits exactly when some accepted file begins with the bytes and refuses exactly when none does
 abbrev pub Demand3 : Walk → Type 0
-Demand3 W = (kind : Kind) (bs : List ℕ) (n : ℕ) → (W n (fresh (kindNumber kind)) bs false .stop ≡ Pause → ⊥) → AtRecordEnd bs
+Demand3 W = (kind : Kind) (bs : List ℕ) (n : ℕ) → (W n (fresh (kindNumber kind)) bs false .stop ≡ Pause → ⊥) → AtRecordEnd kind bs
     → (Waits (W n (fresh (kindNumber kind)) bs false .stop) ↔ Starts kind bs) × (Refuses (W n (fresh (kindNumber kind)) bs false .stop) ↔ (Starts kind bs → ⊥))
 
 -- the count is the state's difference
