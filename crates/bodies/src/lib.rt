@@ -13,7 +13,8 @@ ghost use Prim.Native.Nat.{_+_, _<_, _≤_};
 ghost use mathlib.Core.List.{[], _∷_};
 ghost use lib.ListN.{length};
 ghost use Rattle.words.specs.Words.{placeOf};
-ghost use Rattle.bodies.specs.Tests.{test, firstFault, textAt, textTest, numberTests, countTests, readableTest, unreadNumber, unreadPlace, wholeIn, wholeOf, numberOf};
+ghost use Rattle.bodies.specs.Tests.{test, firstFault, textAt, textTest, numberTests, countTests, readableTest};
+ghost use Rattle.bodies.specs.Tests.{unreadNumber, unreadPlace, wholeIn, wholeOf, numberOf};
 ghost use Rattle.bodies.specs.Bodies.{firstText, trailerTests, at, numberAt, numberRow, numbersTests, rowTests, bodyOf};
 ghost use Rattle.bodies.specs.Named.{planOf};
 

@@ -5,7 +5,10 @@ ghost use mathlib.Core.Path.{_≡_};
 ghost use Prim.Native.Nat.{ℕ, _+_, _<_, _≤_};
 ghost use lib.ListN.{getD};
 ghost use Rattle.plan.specs.Tables.{slotOf, otherCodes};
-ghost use Rattle.plan.specs.Plan.{zeroPlan, runCounts, runLengths, firstLength, Small, Spotted, sumOf, totalOf, spotFrom, spotOf, codesOf, allZero, slotsZero?, imageZero?, zeroPlan?, slotGood, slotsGood, volumeGood, leaderGood, imageRanges, imageGood, planGood};
+ghost use Rattle.plan.specs.Plan.{zeroPlan, runCounts, runLengths, firstLength, Small, Spotted};
+ghost use Rattle.plan.specs.Plan.{sumOf, totalOf, spotFrom, spotOf, codesOf};
+ghost use Rattle.plan.specs.Plan.{allZero, slotsZero?, imageZero?, zeroPlan?, slotGood, slotsGood};
+ghost use Rattle.plan.specs.Plan.{volumeGood, leaderGood, imageRanges, imageGood, planGood};
 
 pub const VOLUME: u64 = 1;
 

@@ -211,7 +211,7 @@ complete-accepted kind bs (suc n) e = go (ends-is (fresh (kindNumber kind)) bs n
         }
 
 -- as many records follow as are promised
-follow-length : (k : ℕ) (ds : List Due) (rs : List (List ℕ)) → Follow k ds rs → length rs ≡ length ds
+pub follow-length : (k : ℕ) (ds : List Due) (rs : List (List ℕ)) → Follow k ds rs → length rs ≡ length ds
 follow-length k [] [] f = refl
 follow-length k [] (r ∷ rs) f = absurd f
 follow-length k (d ∷ ds) [] f = absurd f

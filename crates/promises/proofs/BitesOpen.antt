@@ -1,9 +1,9 @@
--- Demand 3 bites: our walk meets it, a walk that always waits fails it on a whole record that no file begins with, and one that always refuses fails it on the empty file.
+-- Demand 3 bites: our walk meets it, a walk that always waits fails it on a whole record that no file begins with, and one that always refuses or always pauses fails it on the empty file.
 use Prim.Native.Nat.{ℕ, _<_}
 use mathlib.Core.Path.{_≡_, refl, sym, ap, _∙_, subst}
 use mathlib.Core.Bool.{true, false}
 use mathlib.Core.List.{List, [], _∷_, _++_}
-use mathlib.Core.Logic.{inl}
+use mathlib.Core.Logic.{inl, inr, ⊎-elim}
 use native.Mathlib.Omega.{arith}
 use lib.ListN.{length}
 use Rattle.words.specs.declared.Refusal.{Refusal}
@@ -11,20 +11,22 @@ use Rattle.words.specs.Words.{twoAt, fourAt, placeOf}
 use Rattle.plan.specs.Tables.{slotOf, otherCodes}
 use Rattle.plan.specs.Plan.{totalOf, sumOf, runCounts, runLengths, firstLength, spotOf, codesOf, allZero, zeroPlan?}
 use Rattle.bodies.specs.Tests.{firstFault}
+use Rattle.bodies.specs.Named.{planOf}
 use Rattle.walk.specs.Rule.{fresh, goodState}
 use Rattle.walk.specs.Turn.{walkOf, judgeOf, headerOf, headerTests}
 use Rattle.walk.specs.declared.Stop.the-variants.{Wait, Pause, Complete, Refused}
 use Rattle.promises.specs.Rules.{Kind, trailer, kindNumber}
 use Rattle.promises.specs.Arriving.{Own, begun, Starts, Waits, Refuses, AtRecordEnd}
 use Rattle.promises.specs.Bytes.{Bytes}
-use Rattle.promises.specs.Demands.{Demand3, refuser, waiter}
+use Rattle.promises.specs.Demands.{Demand3, refuser, waiter, pauser, plannedTotal}
 use Rattle.promises.proofs.Arriving.{refused-none}
 use Rattle.promises.proofs.Accepts.{complete-accepted}
 use Rattle.promises.proofs.Completed.{some-file}
 use Rattle.promises.proofs.Ends.{arriving}
+use Rattle.promises.proofs.PlanNamed.{enough-planned}
 
 pub ours-open : Demand3 walkOf
-ours-open kind bs n p a = arriving kind begun n bs p a
+ours-open kind bs n p a = arriving kind begun n bs (⊎-elim (λ l. enough-planned kind n bs false l) (λ h. h) p) a
 
 -- a whole record of twelve bytes with the sequence number 7
 strange : List ℕ
@@ -42,7 +44,7 @@ strange-none : Starts trailer strange → ⊥
 strange-none = refused-none trailer begun 9 strange strange-refused
 
 pub always-waiting-open : (m : ℕ) → Demand3 (waiter m) → ⊥
-always-waiting-open m d = strange-none (d trailer strange 9 (λ e. let z : _≡_ {A = ℕ} 0 1 = cc in omega arith) strange-end .0 .0 (m, refl))
+always-waiting-open m d = strange-none (d trailer strange 9 (inr (λ e. let z : _≡_ {A = ℕ} 0 1 = cc in omega arith)) strange-end .0 .0 (m, refl))
 
 -- some trailer there is, and it begins with nothing
 empty-starts : Starts trailer []
@@ -53,4 +55,15 @@ empty-starts = go (some-file 4 (omega arith) (omega arith))
 
 pub always-refusing-open : (r : Refusal) → Demand3 (refuser r) → ⊥
 always-refusing-open r d =
-    d trailer [] 9 (λ e. let z : _≡_ {A = ℕ} 0 1 = cc in omega arith) ([], refl, tt) .1 .0 (r, refl) empty-starts
+    d trailer [] 9 (inr (λ e. let z : _≡_ {A = ℕ} 0 1 = cc in omega arith)) ([], refl, tt) .1 .0 (r, refl) empty-starts
+
+-- a trailer is one record, so nine is above what the empty file plans
+empty-planned : plannedTotal trailer [] < 9
+unfolding totalOf sumOf runCounts planOf
+empty-planned = omega arith
+
+pub always-pausing-open : Demand3 pauser → ⊥
+always-pausing-open d = go (d trailer [] 9 (inl empty-planned) ([], refl, tt) .0 .1 empty-starts)
+  where
+    go : Waits Pause → ⊥
+    go (n, e) = let z : _≡_ {A = ℕ} 0 1 = cc in omega arith

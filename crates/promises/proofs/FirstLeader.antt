@@ -1,5 +1,5 @@
 -- A leader's first record without a fault is exactly the descriptor that `Rules` describes, for the plan whose counts and lengths it says: header, text, and 26 pairs, pair by pair.
-use Prim.Native.Nat.{ℕ, _+_, _*_, _<_}
+use Prim.Native.Nat.{ℕ, _+_, _*_, _≤_, _<_}
 use mathlib.Core.Path.{_≡_, refl, ap}
 use mathlib.Core.List.{List}
 use mathlib.Core.Logic.{_↔_}
@@ -7,12 +7,16 @@ use native.Mathlib.Omega.{arith}
 use lib.ListN.{length, getD}
 use Rattle.words.specs.Words.{placeOf}
 use Rattle.decimal.specs.Text.{bytes}
+use Rattle.decimal.specs.Forms.{widthOf, sortOf}
+use Rattle.decimal.specs.declared.Sort.the-variants.{Whole}
 use Rattle.decimal.specs.declared.Form.the-variants.{I4, I6, I8}
 use Rattle.plan.specs.Tables.{otherCodes, slotOf}
 use Rattle.plan.specs.Plan.{codesOf}
 use Rattle.plan.specs.declared.Plan.{Plan}
+use Rattle.plan.specs.declared.Slot.{Slot}
 use Rattle.bodies.specs.Bodies.{pair, pairs, pairRow, pairTests, countAt, lengthAt, bodyOf, bodyTests, leaderRecord, leaderTests}
 use Rattle.bodies.specs.Named.{countsOf, lengthsOf}
+use Rattle.bodies.specs.declared.Pair as declared
 use Rattle.bodies.specs.declared.Verdict.the-variants.{Fine}
 use Rattle.bodies.proofs.Holding.{Holds, fine-holds, holds-fine, each-holds, holds-each}
 use Rattle.bodies.proofs.PairLaws.{length-none, count-in}
@@ -26,175 +30,84 @@ abbrev pub Named : List ℕ → Plan → Type 0
 Named r q = (i : ℕ) → i < 17 → (getD (countsOf r) i 0 ≡ getD (q .counts) i 0) × (getD (lengthsOf r) i 0 ≡ getD (q .lengths) i 0)
 
 module _ (r : List ℕ) (size : length r ≡ 720) where
-  -- pair j without a fault, with its count and length; and the rule
+  abbrev row : ℕ → declared.Pair
+  row j = getD pairs j (pair 0 I4 0)
+
+  -- pair j without a fault, with its count and length
   abbrev Passes : ℕ → ℕ → ℕ → Type 0
-  Passes j c l = Holds (pairTests r (getD pairs j (pair 0 I4 0))) × (countAt r (getD pairs j (pair 0 I4 0)) ≡ c) × (lengthAt r (getD pairs j (pair 0 I4 0)) ≡ l)
+  Passes j c l = Holds (pairTests r (row j)) × (countAt r (row j) ≡ c) × (lengthAt r (row j) ≡ l)
 
-  is-0 : (c l : ℕ) → Passes 0 c l ↔ Pair r 181 I6 1 1 4096 4096 c l
-  unfolding pairTests slotOf placeOf
-  is-0 = pair-is r (pair 181 I6 0) (slotOf 0) (omega arith) (omega arith) refl
+  -- the rule for it: a pair under the ranges of its row's slot
+  abbrev Ruled : ℕ → Slot → ℕ → ℕ → Type 0
+  Ruled j s = Pair r (row j .byte) (row j .form) (s .least) (s .most) (s .shortest) (s .longest)
 
-  is-1 : (c l : ℕ) → Passes 1 c l ↔ Pair r 193 I6 0 1 1620 1620 c l
-  unfolding pairTests slotOf placeOf
-  is-1 = pair-is r (pair 193 I6 1) (slotOf 1) (omega arith) (omega arith) refl
-
-  is-2 : (c l : ℕ) → Passes 2 c l ↔ Pair r 205 I6 0 9 12 999999 c l
-  unfolding pairTests slotOf placeOf
-  is-2 = pair-is r (pair 205 I6 2) (slotOf 2) (omega arith) (omega arith) refl
-
-  is-3 : (c l : ℕ) → Passes 3 c l ↔ Pair r 217 I6 0 9 12 999999 c l
-  unfolding pairTests slotOf placeOf
-  is-3 = pair-is r (pair 217 I6 3) (slotOf 3) (omega arith) (omega arith) refl
-
-  is-4 : (c l : ℕ) → Passes 4 c l ↔ Pair r 229 I6 0 9 12 999999 c l
-  unfolding pairTests slotOf placeOf
-  is-4 = pair-is r (pair 229 I6 4) (slotOf 4) (omega arith) (omega arith) refl
-
-  is-5 : (c l : ℕ) → Passes 5 c l ↔ Pair r 241 I6 0 0 0 0 c l
-  unfolding pairTests slotOf placeOf
-  is-5 = pair-is r (pair 241 I6 17) (slotOf 17) (omega arith) (omega arith) refl
-
-  is-6 : (c l : ℕ) → Passes 6 c l ↔ Pair r 253 I6 0 9 12 999999 c l
-  unfolding pairTests slotOf placeOf
-  is-6 = pair-is r (pair 253 I6 5) (slotOf 5) (omega arith) (omega arith) refl
-
-  is-7 : (c l : ℕ) → Passes 7 c l ↔ Pair r 265 I6 0 0 0 0 c l
-  unfolding pairTests slotOf placeOf
-  is-7 = pair-is r (pair 265 I6 17) (slotOf 17) (omega arith) (omega arith) refl
-
-  is-8 : (c l : ℕ) → Passes 8 c l ↔ Pair r 277 I6 0 0 0 0 c l
-  unfolding pairTests slotOf placeOf
-  is-8 = pair-is r (pair 277 I6 17) (slotOf 17) (omega arith) (omega arith) refl
-
-  is-9 : (c l : ℕ) → Passes 9 c l ↔ Pair r 289 I6 0 0 0 0 c l
-  unfolding pairTests slotOf placeOf
-  is-9 = pair-is r (pair 289 I6 17) (slotOf 17) (omega arith) (omega arith) refl
-
-  is-10 : (c l : ℕ) → Passes 10 c l ↔ Pair r 301 I6 0 0 0 0 c l
-  unfolding pairTests slotOf placeOf
-  is-10 = pair-is r (pair 301 I6 17) (slotOf 17) (omega arith) (omega arith) refl
-
-  is-11 : (c l : ℕ) → Passes 11 c l ↔ Pair r 313 I6 0 0 0 0 c l
-  unfolding pairTests slotOf placeOf
-  is-11 = pair-is r (pair 313 I6 17) (slotOf 17) (omega arith) (omega arith) refl
-
-  is-12 : (c l : ℕ) → Passes 12 c l ↔ Pair r 325 I6 0 0 0 0 c l
-  unfolding pairTests slotOf placeOf
-  is-12 = pair-is r (pair 325 I6 17) (slotOf 17) (omega arith) (omega arith) refl
-
-  is-13 : (c l : ℕ) → Passes 13 c l ↔ Pair r 337 I6 0 0 0 0 c l
-  unfolding pairTests slotOf placeOf
-  is-13 = pair-is r (pair 337 I6 17) (slotOf 17) (omega arith) (omega arith) refl
-
-  is-14 : (c l : ℕ) → Passes 14 c l ↔ Pair r 349 I6 0 0 0 0 c l
-  unfolding pairTests slotOf placeOf
-  is-14 = pair-is r (pair 349 I6 17) (slotOf 17) (omega arith) (omega arith) refl
-
-  is-15 : (c l : ℕ) → Passes 15 c l ↔ Pair r 421 I8 0 1 12 99999999 c l
-  unfolding pairTests slotOf placeOf
-  is-15 = pair-is r (pair 421 I8 6) (slotOf 6) (omega arith) (omega arith) refl
-
-  is-16 : (c l : ℕ) → Passes 16 c l ↔ Pair r 435 I8 0 1 12 99999999 c l
-  unfolding pairTests slotOf placeOf
-  is-16 = pair-is r (pair 435 I8 7) (slotOf 7) (omega arith) (omega arith) refl
-
-  is-17 : (c l : ℕ) → Passes 17 c l ↔ Pair r 449 I8 0 1 12 99999999 c l
-  unfolding pairTests slotOf placeOf
-  is-17 = pair-is r (pair 449 I8 8) (slotOf 8) (omega arith) (omega arith) refl
-
-  is-18 : (c l : ℕ) → Passes 18 c l ↔ Pair r 463 I8 0 1 12 99999999 c l
-  unfolding pairTests slotOf placeOf
-  is-18 = pair-is r (pair 463 I8 9) (slotOf 9) (omega arith) (omega arith) refl
-
-  is-19 : (c l : ℕ) → Passes 19 c l ↔ Pair r 477 I8 0 1 12 99999999 c l
-  unfolding pairTests slotOf placeOf
-  is-19 = pair-is r (pair 477 I8 10) (slotOf 10) (omega arith) (omega arith) refl
-
-  is-20 : (c l : ℕ) → Passes 20 c l ↔ Pair r 491 I8 0 1 12 99999999 c l
-  unfolding pairTests slotOf placeOf
-  is-20 = pair-is r (pair 491 I8 11) (slotOf 11) (omega arith) (omega arith) refl
-
-  is-21 : (c l : ℕ) → Passes 21 c l ↔ Pair r 505 I8 0 1 12 99999999 c l
-  unfolding pairTests slotOf placeOf
-  is-21 = pair-is r (pair 505 I8 12) (slotOf 12) (omega arith) (omega arith) refl
-
-  is-22 : (c l : ℕ) → Passes 22 c l ↔ Pair r 519 I8 0 1 12 99999999 c l
-  unfolding pairTests slotOf placeOf
-  is-22 = pair-is r (pair 519 I8 13) (slotOf 13) (omega arith) (omega arith) refl
-
-  is-23 : (c l : ℕ) → Passes 23 c l ↔ Pair r 533 I8 0 1 12 99999999 c l
-  unfolding pairTests slotOf placeOf
-  is-23 = pair-is r (pair 533 I8 14) (slotOf 14) (omega arith) (omega arith) refl
-
-  is-24 : (c l : ℕ) → Passes 24 c l ↔ Pair r 547 I8 0 1 12 99999999 c l
-  unfolding pairTests slotOf placeOf
-  is-24 = pair-is r (pair 547 I8 15) (slotOf 15) (omega arith) (omega arith) refl
-
-  is-25 : (c l : ℕ) → Passes 25 c l ↔ Pair r 561 I8 0 1 12 99999999 c l
-  unfolding pairTests slotOf placeOf
-  is-25 = pair-is r (pair 561 I8 16) (slotOf 16) (omega arith) (omega arith) refl
+  -- any pair whose fields lie in the record: the one is the other
+  is : (j : ℕ) → placeOf (row j .byte) + 6 ≤ length r → placeOf (row j .byte + 6) + widthOf (row j .form) ≤ length r → sortOf (row j .form) ≡ Whole → (c l : ℕ)
+      → Passes j c l ↔ Ruled j (slotOf (row j .row)) c l
+  unfolding pairTests
+  is j = pair-is r (row j) (slotOf (row j .row))
 
   -- a slot that is not admitted says 0
-  none-in : (j : ℕ) → getD pairs j (pair 0 I4 0) .row ≡ 17 → Holds (pairTests r (getD pairs j (pair 0 I4 0))) → Passes j 0 0
+  none-in : (j : ℕ) → row j .row ≡ 17 → Holds (pairTests r (row j)) → Passes j 0 0
   unfolding slotOf
   none-in j e h =
-      let x = getD pairs j (pair 0 I4 0) in
+      let x = row j in
       let c = count-in r x h in
       let z : countAt r x ≡ 0 = omega (arith, c .1, ap (λ (i : ℕ). slotOf i .most) e) in
       (h, z, length-none r x z)
 
   module _ (q : Plan) where
     slots-to : headerOf 1 (codesOf 2 0) 720 r ≡ Fine → Holds (leaderTests r) → Named r q → LeaderDescriptor r q
-    unfolding leaderTests codesOf otherCodes placeOf countsOf lengthsOf pairRow
+    unfolding leaderTests codesOf otherCodes slotOf placeOf countsOf lengthsOf pairRow
     slots-to e h m =
-        let row = each-holds (pairTests r) (pair 0 I4 0) pairs (h .1) in
+        let held = each-holds (pairTests r) (pair 0 I4 0) pairs (h .1) in
         record {
           is = header-is 1 (codesOf 2 0) 720 r size .0 e;
           ab = text-is r 12 (bytes "A ") (omega arith) .0 (h .0);
-          slot1 = is-0 _ _ .0 (row 0 (omega arith), m 0 (omega arith) .0, m 0 (omega arith) .1);
-          slot2 = is-1 _ _ .0 (row 1 (omega arith), m 1 (omega arith) .0, m 1 (omega arith) .1);
-          slot3 = is-2 _ _ .0 (row 2 (omega arith), m 2 (omega arith) .0, m 2 (omega arith) .1);
-          slot4 = is-3 _ _ .0 (row 3 (omega arith), m 3 (omega arith) .0, m 3 (omega arith) .1);
-          slot5 = is-4 _ _ .0 (row 4 (omega arith), m 4 (omega arith) .0, m 4 (omega arith) .1);
-          slot6 = is-5 0 0 .0 (none-in 5 refl (row 5 (omega arith)));
-          slot7 = is-6 _ _ .0 (row 6 (omega arith), m 5 (omega arith) .0, m 5 (omega arith) .1);
-          slot8to15 = λ i l u. each-at (λ (i : ℕ). NoSlot r (169 + 12 * i)) 8 8 (is-7 0 0 .0 (none-in 7 refl (row 7 (omega arith))), (is-8 0 0 .0 (none-in 8 refl (row 8 (omega arith))), (is-9 0 0 .0 (none-in 9 refl (row 9 (omega arith))), (is-10 0 0 .0 (none-in 10 refl (row 10 (omega arith))), (is-11 0 0 .0 (none-in 11 refl (row 11 (omega arith))), (is-12 0 0 .0 (none-in 12 refl (row 12 (omega arith))), (is-13 0 0 .0 (none-in 13 refl (row 13 (omega arith))), (is-14 0 0 .0 (none-in 14 refl (row 14 (omega arith))), tt)))))))) i l (omega arith);
-          facilities = λ i l. each-at (λ (i : ℕ). Facility r i (getD (q .counts) (6 + i) 0) (getD (q .lengths) (6 + i) 0)) 0 11 (is-15 _ _ .0 (row 15 (omega arith), m 6 (omega arith) .0, m 6 (omega arith) .1), (is-16 _ _ .0 (row 16 (omega arith), m 7 (omega arith) .0, m 7 (omega arith) .1), (is-17 _ _ .0 (row 17 (omega arith), m 8 (omega arith) .0, m 8 (omega arith) .1), (is-18 _ _ .0 (row 18 (omega arith), m 9 (omega arith) .0, m 9 (omega arith) .1), (is-19 _ _ .0 (row 19 (omega arith), m 10 (omega arith) .0, m 10 (omega arith) .1), (is-20 _ _ .0 (row 20 (omega arith), m 11 (omega arith) .0, m 11 (omega arith) .1), (is-21 _ _ .0 (row 21 (omega arith), m 12 (omega arith) .0, m 12 (omega arith) .1), (is-22 _ _ .0 (row 22 (omega arith), m 13 (omega arith) .0, m 13 (omega arith) .1), (is-23 _ _ .0 (row 23 (omega arith), m 14 (omega arith) .0, m 14 (omega arith) .1), (is-24 _ _ .0 (row 24 (omega arith), m 15 (omega arith) .0, m 15 (omega arith) .1), (is-25 _ _ .0 (row 25 (omega arith), m 16 (omega arith) .0, m 16 (omega arith) .1), tt))))))))))) i (omega arith) (omega arith);
+          slot1 = is 0 (omega arith) (omega arith) refl _ _ .0 (held 0 (omega arith), m 0 (omega arith) .0, m 0 (omega arith) .1);
+          slot2 = is 1 (omega arith) (omega arith) refl _ _ .0 (held 1 (omega arith), m 1 (omega arith) .0, m 1 (omega arith) .1);
+          slot3 = is 2 (omega arith) (omega arith) refl _ _ .0 (held 2 (omega arith), m 2 (omega arith) .0, m 2 (omega arith) .1);
+          slot4 = is 3 (omega arith) (omega arith) refl _ _ .0 (held 3 (omega arith), m 3 (omega arith) .0, m 3 (omega arith) .1);
+          slot5 = is 4 (omega arith) (omega arith) refl _ _ .0 (held 4 (omega arith), m 4 (omega arith) .0, m 4 (omega arith) .1);
+          slot6 = is 5 (omega arith) (omega arith) refl 0 0 .0 (none-in 5 refl (held 5 (omega arith)));
+          slot7 = is 6 (omega arith) (omega arith) refl _ _ .0 (held 6 (omega arith), m 5 (omega arith) .0, m 5 (omega arith) .1);
+          slot8to15 = λ i l u. each-at (λ (i : ℕ). NoSlot r (169 + 12 * i)) 8 8 (is 7 (omega arith) (omega arith) refl 0 0 .0 (none-in 7 refl (held 7 (omega arith))), (is 8 (omega arith) (omega arith) refl 0 0 .0 (none-in 8 refl (held 8 (omega arith))), (is 9 (omega arith) (omega arith) refl 0 0 .0 (none-in 9 refl (held 9 (omega arith))), (is 10 (omega arith) (omega arith) refl 0 0 .0 (none-in 10 refl (held 10 (omega arith))), (is 11 (omega arith) (omega arith) refl 0 0 .0 (none-in 11 refl (held 11 (omega arith))), (is 12 (omega arith) (omega arith) refl 0 0 .0 (none-in 12 refl (held 12 (omega arith))), (is 13 (omega arith) (omega arith) refl 0 0 .0 (none-in 13 refl (held 13 (omega arith))), (is 14 (omega arith) (omega arith) refl 0 0 .0 (none-in 14 refl (held 14 (omega arith))), tt)))))))) i l (omega arith);
+          facilities = λ i l. each-at (λ (i : ℕ). Facility r i (getD (q .counts) (6 + i) 0) (getD (q .lengths) (6 + i) 0)) 0 11 (is 15 (omega arith) (omega arith) refl _ _ .0 (held 15 (omega arith), m 6 (omega arith) .0, m 6 (omega arith) .1), (is 16 (omega arith) (omega arith) refl _ _ .0 (held 16 (omega arith), m 7 (omega arith) .0, m 7 (omega arith) .1), (is 17 (omega arith) (omega arith) refl _ _ .0 (held 17 (omega arith), m 8 (omega arith) .0, m 8 (omega arith) .1), (is 18 (omega arith) (omega arith) refl _ _ .0 (held 18 (omega arith), m 9 (omega arith) .0, m 9 (omega arith) .1), (is 19 (omega arith) (omega arith) refl _ _ .0 (held 19 (omega arith), m 10 (omega arith) .0, m 10 (omega arith) .1), (is 20 (omega arith) (omega arith) refl _ _ .0 (held 20 (omega arith), m 11 (omega arith) .0, m 11 (omega arith) .1), (is 21 (omega arith) (omega arith) refl _ _ .0 (held 21 (omega arith), m 12 (omega arith) .0, m 12 (omega arith) .1), (is 22 (omega arith) (omega arith) refl _ _ .0 (held 22 (omega arith), m 13 (omega arith) .0, m 13 (omega arith) .1), (is 23 (omega arith) (omega arith) refl _ _ .0 (held 23 (omega arith), m 14 (omega arith) .0, m 14 (omega arith) .1), (is 24 (omega arith) (omega arith) refl _ _ .0 (held 24 (omega arith), m 15 (omega arith) .0, m 15 (omega arith) .1), (is 25 (omega arith) (omega arith) refl _ _ .0 (held 25 (omega arith), m 16 (omega arith) .0, m 16 (omega arith) .1), tt))))))))))) i (omega arith) (omega arith);
         }
 
     slots-from : LeaderDescriptor r q → Holds (leaderTests r) × Named r q
-    unfolding leaderTests placeOf countsOf lengthsOf pairRow
+    unfolding leaderTests slotOf placeOf countsOf lengthsOf pairRow
     slots-from d =
-        let s0 = is-0 _ _ .1 (d .slot1) in
-        let s1 = is-1 _ _ .1 (d .slot2) in
-        let s2 = is-2 _ _ .1 (d .slot3) in
-        let s3 = is-3 _ _ .1 (d .slot4) in
-        let s4 = is-4 _ _ .1 (d .slot5) in
-        let s5 = is-5 _ _ .1 (d .slot6) in
-        let s6 = is-6 _ _ .1 (d .slot7) in
-        let s7 = is-7 _ _ .1 (d .slot8to15 8 (omega arith) (omega arith)) in
-        let s8 = is-8 _ _ .1 (d .slot8to15 9 (omega arith) (omega arith)) in
-        let s9 = is-9 _ _ .1 (d .slot8to15 10 (omega arith) (omega arith)) in
-        let s10 = is-10 _ _ .1 (d .slot8to15 11 (omega arith) (omega arith)) in
-        let s11 = is-11 _ _ .1 (d .slot8to15 12 (omega arith) (omega arith)) in
-        let s12 = is-12 _ _ .1 (d .slot8to15 13 (omega arith) (omega arith)) in
-        let s13 = is-13 _ _ .1 (d .slot8to15 14 (omega arith) (omega arith)) in
-        let s14 = is-14 _ _ .1 (d .slot8to15 15 (omega arith) (omega arith)) in
-        let s15 = is-15 _ _ .1 (d .facilities 0 (omega arith)) in
-        let s16 = is-16 _ _ .1 (d .facilities 1 (omega arith)) in
-        let s17 = is-17 _ _ .1 (d .facilities 2 (omega arith)) in
-        let s18 = is-18 _ _ .1 (d .facilities 3 (omega arith)) in
-        let s19 = is-19 _ _ .1 (d .facilities 4 (omega arith)) in
-        let s20 = is-20 _ _ .1 (d .facilities 5 (omega arith)) in
-        let s21 = is-21 _ _ .1 (d .facilities 6 (omega arith)) in
-        let s22 = is-22 _ _ .1 (d .facilities 7 (omega arith)) in
-        let s23 = is-23 _ _ .1 (d .facilities 8 (omega arith)) in
-        let s24 = is-24 _ _ .1 (d .facilities 9 (omega arith)) in
-        let s25 = is-25 _ _ .1 (d .facilities 10 (omega arith)) in (
+        let s0 = is 0 (omega arith) (omega arith) refl _ _ .1 (d .slot1) in
+        let s1 = is 1 (omega arith) (omega arith) refl _ _ .1 (d .slot2) in
+        let s2 = is 2 (omega arith) (omega arith) refl _ _ .1 (d .slot3) in
+        let s3 = is 3 (omega arith) (omega arith) refl _ _ .1 (d .slot4) in
+        let s4 = is 4 (omega arith) (omega arith) refl _ _ .1 (d .slot5) in
+        let s5 = is 5 (omega arith) (omega arith) refl _ _ .1 (d .slot6) in
+        let s6 = is 6 (omega arith) (omega arith) refl _ _ .1 (d .slot7) in
+        let s7 = is 7 (omega arith) (omega arith) refl _ _ .1 (d .slot8to15 8 (omega arith) (omega arith)) in
+        let s8 = is 8 (omega arith) (omega arith) refl _ _ .1 (d .slot8to15 9 (omega arith) (omega arith)) in
+        let s9 = is 9 (omega arith) (omega arith) refl _ _ .1 (d .slot8to15 10 (omega arith) (omega arith)) in
+        let s10 = is 10 (omega arith) (omega arith) refl _ _ .1 (d .slot8to15 11 (omega arith) (omega arith)) in
+        let s11 = is 11 (omega arith) (omega arith) refl _ _ .1 (d .slot8to15 12 (omega arith) (omega arith)) in
+        let s12 = is 12 (omega arith) (omega arith) refl _ _ .1 (d .slot8to15 13 (omega arith) (omega arith)) in
+        let s13 = is 13 (omega arith) (omega arith) refl _ _ .1 (d .slot8to15 14 (omega arith) (omega arith)) in
+        let s14 = is 14 (omega arith) (omega arith) refl _ _ .1 (d .slot8to15 15 (omega arith) (omega arith)) in
+        let s15 = is 15 (omega arith) (omega arith) refl _ _ .1 (d .facilities 0 (omega arith)) in
+        let s16 = is 16 (omega arith) (omega arith) refl _ _ .1 (d .facilities 1 (omega arith)) in
+        let s17 = is 17 (omega arith) (omega arith) refl _ _ .1 (d .facilities 2 (omega arith)) in
+        let s18 = is 18 (omega arith) (omega arith) refl _ _ .1 (d .facilities 3 (omega arith)) in
+        let s19 = is 19 (omega arith) (omega arith) refl _ _ .1 (d .facilities 4 (omega arith)) in
+        let s20 = is 20 (omega arith) (omega arith) refl _ _ .1 (d .facilities 5 (omega arith)) in
+        let s21 = is 21 (omega arith) (omega arith) refl _ _ .1 (d .facilities 6 (omega arith)) in
+        let s22 = is 22 (omega arith) (omega arith) refl _ _ .1 (d .facilities 7 (omega arith)) in
+        let s23 = is 23 (omega arith) (omega arith) refl _ _ .1 (d .facilities 8 (omega arith)) in
+        let s24 = is 24 (omega arith) (omega arith) refl _ _ .1 (d .facilities 9 (omega arith)) in
+        let s25 = is 25 (omega arith) (omega arith) refl _ _ .1 (d .facilities 10 (omega arith)) in (
           (
             text-is r 12 (bytes "A ") (omega arith) .1 (d .ab),
             holds-each (pairTests r) (pair 0 I4 0) pairs
-                (λ i l. each-at (λ (j : ℕ). Holds (pairTests r (getD pairs j (pair 0 I4 0)))) 0 26 (s0 .0, (s1 .0, (s2 .0, (s3 .0, (s4 .0, (s5 .0, (s6 .0, (s7 .0, (s8 .0, (s9 .0, (s10 .0, (s11 .0, (s12 .0, (s13 .0, (s14 .0, (s15 .0, (s16 .0, (s17 .0, (s18 .0, (s19 .0, (s20 .0, (s21 .0, (s22 .0, (s23 .0, (s24 .0, (s25 .0, tt)))))))))))))))))))))))))) i (omega arith) l),
+                (λ i l. each-at (λ (j : ℕ). Holds (pairTests r (row j))) 0 26 (s0 .0, (s1 .0, (s2 .0, (s3 .0, (s4 .0, (s5 .0, (s6 .0, (s7 .0, (s8 .0, (s9 .0, (s10 .0, (s11 .0, (s12 .0, (s13 .0, (s14 .0, (s15 .0, (s16 .0, (s17 .0, (s18 .0, (s19 .0, (s20 .0, (s21 .0, (s22 .0, (s23 .0, (s24 .0, (s25 .0, tt)))))))))))))))))))))))))) i (omega arith) l),
           ),
           λ i l. each-at (λ (i : ℕ). (getD (countsOf r) i 0 ≡ getD (q .counts) i 0) × (getD (lengthsOf r) i 0 ≡ getD (q .lengths) i 0)) 0 17 ((s0 .1, s0 .2), ((s1 .1, s1 .2), ((s2 .1, s2 .2), ((s3 .1, s3 .2), ((s4 .1, s4 .2), ((s6 .1, s6 .2), ((s15 .1, s15 .2), ((s16 .1, s16 .2), ((s17 .1, s17 .2), ((s18 .1, s18 .2), ((s19 .1, s19 .2), ((s20 .1, s20 .2), ((s21 .1, s21 .2), ((s22 .1, s22 .2), ((s23 .1, s23 .2), ((s24 .1, s24 .2), ((s25 .1, s25 .2), tt))))))))))))))))) i (omega arith) l,
         )

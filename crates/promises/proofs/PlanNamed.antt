@@ -1,12 +1,12 @@
--- `plan-named`: behind the first record the state's plan is the numbers that the rules name in it, since the record that passed is a first record of the rules.
-use Prim.Native.Nat.{ℕ, zero, suc, _+_, _≤_}
+-- `plan-named`: behind the first record the state's plan is the numbers that the rules name in it, since the record that passed is a first record of the rules; so a budget above that plan's records never pauses (`enough-planned`).
+use Prim.Native.Nat.{ℕ, zero, suc, _+_, _≤_, _<_}
 use mathlib.Core.Path.{_≡_, refl, sym, ap, _∙_, subst}
 use mathlib.Core.Bool.{Bool, true, false}
 use mathlib.Core.List.{List}
 use native.Mathlib.Omega.{arith}
 use lib.ListN.{length, take, drop}
 use lib.Seq.{length-take-le}
-use Rattle.plan.specs.Plan.{firstLength, spotOf, zeroPlan, codesOf}
+use Rattle.plan.specs.Plan.{firstLength, spotOf, zeroPlan, codesOf, totalOf}
 use Rattle.plan.specs.declared.Plan.{Plan}
 use Rattle.bodies.specs.Bodies.{bodyOf}
 use Rattle.bodies.specs.Named.{planOf}
@@ -20,13 +20,16 @@ use Rattle.walk.specs.declared.Turn.the-variants.{Pass, Halt}
 use Rattle.walk.specs.declared.Walked.{Walked}
 use Rattle.walk.proofs.LoopLaws.{walk-bad, walk-halt, walk-pass, walk-pause}
 use Rattle.walk.proofs.TurnLaws.{pass-parts, pass-long}
-use mathlib.Core.Logic.{_⊎_, inl, inr}
+use mathlib.Core.Logic.{_⊎_, inl, inr, _≢_}
 use lib.Dec.{eqb}
 use borrow.Author.Tests.{ne-eqb}
 use Rattle.words.specs.Tests.{pick}
 use Rattle.words.proofs.Laws.{cases}
 use Rattle.promises.proofs.Steps.{by-turns}
 use Rattle.promises.specs.Rules.{Kind, volume, leader, image, trailer, kindNumber, First}
+use Rattle.promises.specs.Demands.{plannedTotal}
+use Rattle.promises.proofs.Counted.{pause-counted}
+use Rattle.promises.proofs.Enough.{enough}
 use Rattle.promises.proofs.Parts.{header-take}
 use Rattle.promises.proofs.Least.{first-least}
 use Rattle.promises.proofs.FirstIs.{Fault-free, first-is}
@@ -56,10 +59,10 @@ plan-kept b st bs c =
     by-turns c (λ n s y w u. (s .passed ≡ 0 → ⊥) → w .state .plan ≡ s .plan) (λ n s y g h. refl) (λ s y g h. refl) (λ n s y x g t h. refl)
     (λ n s y w u g t i h. i (λ e. let q = next-passed s y in omega arith) ∙ next-plan s y h) b st bs
 
--- a walk begun fresh that has passed a record: its plan is the numbers that the rules name in the file's first record
-pub plan-named : (kind : Kind) (bs : List ℕ) (c : Bool) (n : ℕ) → (walkOf n (fresh (kindNumber kind)) bs c .count ≡ 0 → ⊥)
-    → First kind (take (firstLength (kindNumber kind)) bs) (walkOf n (fresh (kindNumber kind)) bs c .state .plan)
-plan-named kind bs c n h = go n h (cases (goodState st)) (turnOf st bs c) refl
+-- a walk begun fresh that has passed a record passed the file's first, and its plan is the one behind that record
+first-walked : (kind : Kind) (bs : List ℕ) (c : Bool) (n : ℕ) → (walkOf n (fresh (kindNumber kind)) bs c .count ≡ 0 → ⊥)
+    → (turnOf (fresh (kindNumber kind)) bs c ≡ Pass) × (walkOf n (fresh (kindNumber kind)) bs c .state .plan ≡ nextOf (fresh (kindNumber kind)) bs .plan)
+first-walked kind bs c n h = go n h (cases (goodState st)) (turnOf st bs c) refl
   where
     st : State
     st = fresh (kindNumber kind)
@@ -68,11 +71,28 @@ plan-named kind bs c n h = go n h (cases (goodState st)) (turnOf st bs c) refl
     count-of w v e z = ap (λ (x : Walked). x .count) e ∙ z
 
     go : (m : ℕ) → (walkOf m st bs c .count ≡ 0 → ⊥) → (goodState st ≡ true) ⊎ (goodState st ≡ false) → (t : Turn) → turnOf st bs c ≡ t
-        → First kind (take (firstLength (kindNumber kind)) bs) (walkOf m st bs c .state .plan)
+        → (turnOf st bs c ≡ Pass) × (walkOf m st bs c .state .plan ≡ nextOf st bs .plan)
     go m k (inr g) t e = absurd (k (count-of _ _ (walk-bad st bs c m g) refl))
     go zero k (inl g) t e = absurd (k (count-of _ _ (walk-pause st bs c g) refl))
     go (suc m) k (inl g) (Halt x) e = absurd (k (count-of _ _ (walk-halt st bs c m x g e) refl))
     go (suc m) k (inl g) Pass e =
-        let p : walkOf (suc m) st bs c .state .plan ≡ nextOf st bs .plan =
-        ap (λ (w : Walked). w .state .plan) (walk-pass st bs c m g e) ∙ plan-kept m (nextOf st bs) (drop (nextSpot st .length) bs) c (λ z. let o = next-passed st bs in omega arith) in
-        subst (λ (q : Plan). First kind (take (firstLength (kindNumber kind)) bs) q) (sym p) (first-passed kind bs c e)
+        (e, ap (λ (w : Walked). w .state .plan) (walk-pass st bs c m g e) ∙ plan-kept m (nextOf st bs) (drop (nextSpot st .length) bs) c (λ z. let o = next-passed st bs in omega arith))
+
+-- a walk begun fresh that has passed a record: its plan is the numbers that the rules name in the file's first record
+pub plan-named : (kind : Kind) (bs : List ℕ) (c : Bool) (n : ℕ) → (walkOf n (fresh (kindNumber kind)) bs c .count ≡ 0 → ⊥)
+    → First kind (take (firstLength (kindNumber kind)) bs) (walkOf n (fresh (kindNumber kind)) bs c .state .plan)
+plan-named kind bs c n h =
+    let q = first-walked kind bs c n h in
+    subst (λ (p : Plan). First kind (take (firstLength (kindNumber kind)) bs) p) (sym (q .1)) (first-passed kind bs c (q .0))
+
+plan-behind : (kind : ℕ) (bs : List ℕ) → nextOf (fresh kind) bs .plan ≡ planOf kind (take (firstLength kind) bs)
+unfolding nextOf spotOf
+plan-behind kind bs = refl
+
+-- a budget above the records that the file's own first record plans never pauses, open or closed
+pub enough-planned : (kind : Kind) (n : ℕ) (bs : List ℕ) (c : Bool) → plannedTotal kind bs < n → walkOf n (fresh (kindNumber kind)) bs c .stop ≢ Pause
+enough-planned kind n bs c l e =
+    let k = kindNumber kind in
+    let m : walkOf n (fresh k) bs c .count ≡ n = pause-counted n (fresh k) bs c e in
+    let q = first-walked kind bs c n (λ z. omega arith) .1 ∙ plan-behind k bs in
+    enough k n bs c (subst (λ (p : Plan). totalOf k p < n) (sym q) l) e

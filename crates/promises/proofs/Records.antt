@@ -1,8 +1,8 @@
 -- An accepted file has as many records as its first record plans, so its closed walk is complete for every budget above the number of its records.
 use Prim.Native.Nat.{ℕ, suc, _+_, _≤_, _<_}
-use mathlib.Core.Path.{_≡_, refl, sym, ap, _∙_, subst}
+use mathlib.Core.Path.{_≡_, sym, ap, _∙_, subst}
 use mathlib.Core.Bool.{true}
-use mathlib.Core.List.{List, [], _∷_, _++_}
+use mathlib.Core.List.{List}
 use native.Mathlib.Omega.{arith}
 use lib.ListN.{length, take}
 use lib.Seq.{take-at}
@@ -12,18 +12,11 @@ use Rattle.bodies.specs.Named.{planOf}
 use Rattle.walk.specs.Rule.{fresh}
 use Rattle.walk.specs.Turn.{walkOf}
 use Rattle.walk.specs.declared.Stop.the-variants.{Complete}
-use Rattle.promises.specs.Rules.{Kind, kindNumber, First, Due, promised, Follow, concat, Accepted}
+use Rattle.promises.specs.Rules.{Kind, kindNumber, promised, concat, Accepted}
 use Rattle.promises.proofs.FirstIs.{first-plan, first-size, same-promised}
 use Rattle.promises.proofs.LaterIs.{promised-length}
-use Rattle.promises.proofs.Accepts.{planned, accepted-complete}
+use Rattle.promises.proofs.Accepts.{planned, accepted-complete, follow-length}
 use Rattle.promises.proofs.Completed.{named-counts, named-lengths}
-
--- as many records follow as are due
-follow-length : (k : ℕ) (ds : List Due) (rs : List (List ℕ)) → Follow k ds rs → length rs ≡ length ds
-follow-length k [] [] f = refl
-follow-length k [] (r ∷ rs) f = absurd f
-follow-length k (d ∷ ds) [] f = absurd f
-follow-length k (d ∷ ds) (r ∷ rs) f = ap suc (follow-length (suc k) ds rs (f .1))
 
 -- the records of an accepted file, the first among them
 pub records-planned : (kind : Kind) (bs : List ℕ) (a : Accepted kind bs) → suc (length (a .rest)) ≡ totalOf (kindNumber kind) (planned kind bs)

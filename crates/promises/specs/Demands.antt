@@ -2,7 +2,7 @@
 -- promise says"). Assumes nothing.
 use Prim.Native.Nat.{ℕ, zero, suc, _+_, _<_}
 use mathlib.Core.Path.{_≡_}
-use mathlib.Core.Logic.{_↔_}
+use mathlib.Core.Logic.{_↔_, _⊎_}
 use mathlib.Core.Bool.{Bool, true, false}
 use mathlib.Core.List.{List, []}
 use lib.Dec.{eqb, leb}
@@ -34,9 +34,10 @@ plannedTotal kind bs = totalOf (kindNumber kind) (planOf (kindNumber kind) (take
 abbrev pub Demand2 : Walk → Type 0
 Demand2 W = (kind : Kind) (bs : List ℕ) (n : ℕ) → plannedTotal kind bs < n → (W n (fresh (kindNumber kind)) bs true .stop ≡ Complete) ↔ Accepted kind bs
 
--- demand 3: begun fresh, open, without a pause, at a record's end, it waits exactly when some accepted file begins with the bytes and refuses exactly when none does
+-- demand 3: begun fresh, open, at a record's end, with a budget above the planned records or any that does not pause, it waits exactly when some accepted file begins
+-- with the bytes and refuses exactly when none does
 abbrev pub Demand3 : Walk → Type 0
-Demand3 W = (kind : Kind) (bs : List ℕ) (n : ℕ) → (W n (fresh (kindNumber kind)) bs false .stop ≡ Pause → ⊥) → AtRecordEnd kind bs
+Demand3 W = (kind : Kind) (bs : List ℕ) (n : ℕ) → (plannedTotal kind bs < n) ⊎ (W n (fresh (kindNumber kind)) bs false .stop ≡ Pause → ⊥) → AtRecordEnd kind bs
     → (Waits (W n (fresh (kindNumber kind)) bs false .stop) ↔ Starts kind bs) × (Refuses (W n (fresh (kindNumber kind)) bs false .stop) ↔ (Starts kind bs → ⊥))
 
 -- the count is the state's difference
@@ -52,6 +53,10 @@ refuser r n st bs c = stopped st (Refused r)
 -- always waiting
 abbrev pub waiter : ℕ → Walk
 waiter m n st bs c = stopped st (Wait m)
+
+-- always pausing
+abbrev pub pauser : Walk
+pauser n st bs c = stopped st Pause
 
 -- one fixed answer
 abbrev pub fixed : Walked → Walk
