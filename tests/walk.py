@@ -1,104 +1,34 @@
 #!/usr/bin/env python3
 """Makes crates/try_walk/stdin and stdout: examples of begin, step, walk and the next record's start.
 
-The commands build files in a buffer of 65,536 bytes and ask. The answers are the oracle's (tests/oracle),
-applied to the very bytes that the commands build. Where an example says what is `due`, that was worked
-out here from document 01, and the oracle is held to it. `walk.py` writes the two files, `walk.py --check`
-says whether they are as stored.
+The commands build files in a buffer and ask (commands.py); the answers are the oracle's (tests/oracle). Where
+an example says what is `due`, that was worked out here from document 01, and the oracle is held to it.
+`walk.py` writes the two files, `walk.py --check` says whether they are as stored.
 
-  # TEXT  printed   c VALUE  fill   p BYTE:TEXT  b BYTE VALUE  q BYTE VALUE  put text, a byte, four bytes
+  #, c, p, b, q   as in commands.py
   g KIND  begin     w FROM LENGTH CLOSED BUDGET  walk    t FROM LENGTH CLOSED  step
   s  the next record's start      v  the state's 42 numbers      n INDEX VALUE  set one of them"""
 import sys
 from contextlib import contextmanager
-from pathlib import Path
 from typing import Iterator
 
-TESTS = Path(__file__).resolve().parent
-HOME = TESTS.parent / 'crates' / 'try_walk'
 sys.dont_write_bytecode = True
-sys.path.insert(0, str(TESTS / 'oracle'))
+from commands import (FIRST, HELD, MANY, TESTS, File, Patch, answers, ask, changed, commands, draw, fill, held, image, put, refused, said,  # noqa: E402
+                      store, title, volume)
 import ceos  # noqa: E402
 from ceos import D, FACILITIES, IMAGE, KIND, L, LEADER, N, PASSED, POINTERS, S, SLOTS, TRAILER, VOLUME, W  # noqa: E402
 
-MOST_INPUT = 250_000
-HELD = 65_536
-MANY = 2 ** 64 - 1
+HOME = TESTS.parent / 'crates' / 'try_walk'
 OPEN, CLOSED = 0, 1
-What = str | bytes | int  # what is put: a text, raw bytes, or a four-byte number
-Patch = tuple[int, What]  # a byte number, from 1, and what is put there
-
-commands: list[bytes] = []
-answers: list[bytes] = []
-held = bytearray(HELD)
 state: list[int] = [0] * 42
 
 
 # The commands ---------------------------------------------------------------------------------------
 
 
-def title(text: str) -> None:
-    commands.append(b'# ' + text.encode('ascii'))
-    answers.append(b'# ' + text.encode('ascii'))
-
-
-def ask(command: str, answer: str, due: str) -> None:
-    """A command that answers. `due` is the whole answer or its first words, worked out by hand."""
-    assert (answer + ' ').startswith(due + ' ') or not due, f'{command}: due {due}, the oracle says {answer}'
-    commands.append(command.encode())
-    answers.append(answer.encode())
-
-
-def fill(value: int) -> None:
-    commands.append(b'c %d' % value)
-    held[:] = bytes((value,)) * HELD
-
-
-def raw(what: What) -> bytes:
-    if isinstance(what, int):
-        return what.to_bytes(4, 'big')
-    return what.encode('latin-1') if isinstance(what, str) else what
-
-
-def put(byte: int, what: What) -> None:
-    data = raw(what)
-    assert 1 <= byte and byte - 1 + len(data) <= HELD
-    if isinstance(what, int):
-        commands.append(b'q %d %d' % (byte, what))
-    elif len(data) == 1:
-        commands.append(b'b %d %d' % (byte, data[0]))
-    else:
-        assert b'\n' not in data
-        commands.append(b'p %d:' % byte + data)
-    held[byte - 1:byte - 1 + len(data)] = data
-
-
-@contextmanager
-def changed(*patches: Patch) -> Iterator[None]:
-    """These patches for a while; then the old bytes are put back."""
-    olds: list[Patch] = []
-    for byte, what in patches:
-        old = bytes(held[byte - 1:byte - 1 + len(raw(what))])
-        olds.append((byte, int.from_bytes(old, 'big') if isinstance(what, int) else old))
-        put(byte, what)
-    yield
-    for byte, old_what in reversed(olds):
-        put(byte, old_what)
-
-
 def begin(kind: int, due: str = '') -> None:
     state[:], answer = ceos.begin(kind)
     ask(f'g {kind}', 'BEGUN' if answer == ('fresh',) else said(answer), due)
-
-
-def said(stop: tuple) -> str:
-    if stop[0] == 'refused':
-        return refused(*stop[1:])
-    return ' '.join(str(part) for part in stop).upper()
-
-
-def refused(number: int, record: int = 0, place: int = 0) -> str:
-    return f'REFUSED {number} RECORD {record} AT {place}'
 
 
 def walked(size: int, closed: int, budget: int, at: int) -> str:
@@ -148,11 +78,8 @@ def by_turns() -> int:
     return len(answers) % 2
 
 
-# Files, in document 01's words ------------------------------------------------------------------------
+# Leaders and trailers, in document 01's words; volumes and images are made by commands.py ---------------
 
-FIRST = {VOLUME: ((192, 192, 18, 18), 360), LEADER: ((11, 192, 18, 18), 720),
-         IMAGE: ((50, 192, 18, 18), 720), TRAILER: ((63, 192, 18, 18), 720)}
-POINTER, TEXT, LINE = (219, 192, 18, 18), (18, 192, 18, 18), (50, 11, 18, 20)
 FACILITY = (18, 200, 18, 70)
 # slot: code, least and most count, least and most length
 SLOT = {1: (10, 1, 1, 4096, 4096), 2: (20, 0, 1, 1620, 1620), 3: (30, 0, 9, 12, 999999), 4: (40, 0, 9, 12, 999999),
@@ -162,56 +89,6 @@ SLOT_INDEX = {slot: SLOTS + 2 * i for i, slot in enumerate(SLOT)}  # its count's
 SUMMARY = [(477, 8, '  90.000'), (711, 16, '+1234567.1234567'), (743, 16, '      -0.0000000'), (935, 16, '        .5000000')]
 SUMMARY += [(1887 + 20 * i, 20, f' {i}.0000000000000E+0{i}') for i in range(6)]
 MAP = [(61, 16, '             -12'), (77, 16, '9999999999999999'), (93, 16, '-9999999.9999999')]
-
-
-class File:
-    """A file in the buffer from place 0 on: its kind, and where its records start and the last ends."""
-
-    def __init__(self, kind: int) -> None:
-        self.kind = kind
-        self.starts = [0]
-        self.record(*FIRST[kind])
-        self.put(13, 'A ')
-
-    def record(self, codes: tuple[int, ...], length: int) -> None:
-        at = self.starts[-1]
-        put(at + 1, len(self.starts))
-        put(at + 5, int.from_bytes(bytes(codes), 'big'))
-        put(at + 9, length)
-        self.starts.append(at + length)
-
-    def put(self, byte: int, what: What) -> None:
-        """Into the last record, by its own byte numbers."""
-        put(self.starts[-2] + byte, what)
-
-    @property
-    def size(self) -> int:
-        return self.starts[-1]
-
-    @property
-    def records(self) -> int:
-        return len(self.starts) - 1
-
-    def to(self, passed: int) -> None:
-        """The state after so many records; nothing is asked where it is there already."""
-        begun_state = ceos.begin(self.kind)[0]
-        if state == ceos.walk(begun_state, bytes(held[:self.starts[passed]]), False, passed)[0]:
-            return
-        begin(self.kind, 'BEGUN')
-        if passed:
-            walk(self.starts[passed], OPEN, passed, due=f'PAUSE COUNT {passed} PASSED {passed}')
-
-
-def volume(pointers: int, filler: int = 32) -> File:
-    fill(filler)
-    file = File(VOLUME)
-    file.put(161, f'{pointers:4}')
-    for pointer in range(1, pointers + 1):
-        file.record(POINTER, 360)
-        file.put(65, 'SARL' if pointer == 1 else 'SART' if pointer == pointers else 'IMOP')
-        file.put(101, f'{7 * pointer:8}{720:8}')
-    file.record(TEXT, 360)
-    return file
 
 
 def slot_byte(slot: int) -> int:
@@ -259,25 +136,6 @@ def some_leader() -> File:
     return leader({2: (1, 1620), 3: (2, 12)}, {11: (1, 20)})
 
 
-def image(n: int, w: int = 3, s: int = 0, more: int = 0, filler: int = 0) -> File:
-    """L = 192 + d + s and so many more; left fills 0, 1, 2, .. by turns."""
-    fill(filler)
-    file, length = File(IMAGE), 192 + 2 * w + s + more
-    file.put(181, f'{n:6}{length:6}')
-    file.put(225, '   2')
-    file.put(233, f'   1{n:8}')
-    file.put(249, f'{w:8}')
-    file.put(281, f'{2 * w:8}{s:4}')
-    file.put(429, 'IU2 ')
-    for line in range(1, n + 1):
-        file.record(LINE, length)
-        left = (line - 1) % (w + 1)
-        for byte, value in ((13, line), (17, 1), (21, left), (25, w - left), (29, 0)):
-            if value or filler:
-                file.put(byte, value)
-    return file
-
-
 def trailer(filler: int = 32) -> File:
     fill(filler)
     return File(TRAILER)
@@ -294,6 +152,16 @@ KINDS = {VOLUME: 'volume', LEADER: 'leader', IMAGE: 'image', TRAILER: 'trailer'}
 # Ways to ask -----------------------------------------------------------------------------------------
 
 
+def to(file: File, passed: int) -> None:
+    """The state after so many of the file's records; nothing is asked where it is there already."""
+    begun_state = ceos.begin(file.kind)[0]
+    if state == ceos.walk(begun_state, bytes(held[:file.starts[passed]]), False, passed)[0]:
+        return
+    begin(file.kind, 'BEGUN')
+    if passed:
+        walk(file.starts[passed], OPEN, passed, due=f'PAUSE COUNT {passed} PASSED {passed}')
+
+
 def in_file(file: File, record: int, patches: tuple[Patch, ...]) -> list[Patch]:
     return [(file.starts[record - 1] + byte, what) for byte, what in patches]
 
@@ -302,7 +170,7 @@ def broken(file: File, record: int, due: tuple[int, int], *patches: Patch) -> No
     """The patched record is refused. Byte numbers are the record's; due: refusal number and byte.
 
     The state stays the one before that record, so the next example may follow at once."""
-    file.to(record - 1)
+    to(file, record - 1)
     at = file.starts[record - 1]
     with changed(*in_file(file, record, patches)):
         step(file.size - at, by_turns(), at, refused(due[0], record, at + due[1] - 1) + f' COUNT 0 PASSED {record - 1}')
@@ -310,7 +178,7 @@ def broken(file: File, record: int, due: tuple[int, int], *patches: Patch) -> No
 
 def fits(file: File, record: int, *patches: Patch, plan: dict[int, int] | None = None) -> None:
     """The patched record is passed; plan: numbers of the state, by index, which is then shown."""
-    file.to(record - 1)
+    to(file, record - 1)
     before, at = list(state), file.starts[record - 1]
     with changed(*in_file(file, record, patches)):
         step(file.size - at, by_turns(), at, f'PAUSE COUNT 1 PASSED {record}')
@@ -502,7 +370,7 @@ def refusals_of_trailers() -> None:
 def bad_after(file: File) -> None:
     """The file's first record passed, then a number of the state spoilt: 11, whatever comes."""
     title(f'{KINDS[file.kind]}: 11')
-    file.to(1)
+    to(file, 1)
     for index, value in ((KIND, 0), (KIND, 5), (PASSED, file.records + 1), (PASSED, MANY), (POINTERS, 7), (L, MANY), (S, 10000)):
         bad((index, value), at=file.starts[1], size=min(720, file.size - file.starts[1]))
 
@@ -616,7 +484,7 @@ def bad_before_all() -> None:
     title('bad state before budget 0, and before the bytes; a good one pauses')
     for kind in KINDS:
         file = file_of(kind)
-        file.to(1)
+        to(file, 1)
         for budget in (0, MANY):
             for size, closed in ((0, CLOSED), (file.size, OPEN)):
                 with spoilt(((PASSED, file.records + 1),)):
@@ -1160,7 +1028,7 @@ def orders_of_shortness() -> None:
         for record in sorted({1, file.records}):
             at = file.starts[record - 1]
             length = file.starts[record] - at
-            file.to(record - 1)
+            to(file, record - 1)
             for byte, what, number_due in ((1, 77, 3), (5, b'M', 4), (9, 2 ** 24, 5)):
                 with changed((at + byte, what)):
                     if number_due == 3:
@@ -1412,7 +1280,6 @@ def unjudged() -> None:
 
 # Drawn -------------------------------------------------------------------------------------------------
 
-seed = [20260]
 DAMAGE = b' 0123+-.xA\0\1\x12\x32\xc0\xff'
 JUDGED = {  # byte numbers of the files of file_of at which a rule looks, beside the headers
     VOLUME: (161, 164, 360 + 65, 360 + 101, 360 + 116, 720 + 68, 1080 + 108),
@@ -1420,12 +1287,6 @@ JUDGED = {  # byte numbers of the files of file_of at which a rule looks, beside
     IMAGE: (181, 186, 192, 228, 236, 244, 256, 288, 292, 429, 720 + 16, 720 + 20, 720 + 24, 720 + 32),
     TRAILER: (14, 15, 700),
 }
-
-
-def draw(below: int) -> int:
-    """A number from 0 on; the same in every run and every Python."""
-    seed[0] = (seed[0] * 6364136223846793005 + 1442695040888963407) % 2 ** 64
-    return (seed[0] >> 33) % below
 
 
 def drawn() -> None:
@@ -1454,17 +1315,7 @@ def main() -> int:
                  bad_before_all, every_number, kinds_and_totals, ends_of_volumes_and_leaders, ends_of_images, starts_of_volumes,
                  biggest_image, far_lines, biggest_leader, drawn):
         part()
-    made = {'stdin': b'\n'.join(commands) + b'\n', 'stdout': b'\n'.join(answers) + b'\n'}
-    assert len(made['stdin']) <= MOST_INPUT, f"{len(made['stdin'])} bytes of input, the program reads {MOST_INPUT}"
-    if '--check' in sys.argv[1:]:
-        stale = [name for name, data in made.items() if not (HOME / name).exists() or (HOME / name).read_bytes() != data]
-        print(f"tests/walk.py: {len(answers)} answers, {'as stored' if not stale else 'not as stored: ' + ' '.join(stale)}")
-        return 1 if stale else 0
-    HOME.mkdir(parents=True, exist_ok=True)
-    for name, data in made.items():
-        (HOME / name).write_bytes(data)
-    print(f"tests/walk.py: wrote {len(answers)} answers, {len(made['stdin'])} bytes of input")
-    return 0
+    return store(HOME)
 
 
 sys.exit(main())

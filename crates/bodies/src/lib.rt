@@ -240,7 +240,7 @@ fn field(r: &[u8], byte: usize, form: Form) -> Field
 }
 
 // The number at document 01's byte; 0 where there is none.
-fn number_at(r: &[u8], byte: usize, form: Form) -> u64
+pub fn number_at(r: &[u8], byte: usize, form: Form) -> u64
     ensures { λ x. ⌜ x ≡ numberAt (now (r .entry)) byte form ⌝ }
 {
     number_of(field(r, byte, form))

@@ -2,7 +2,7 @@
 use Prim.Native.Nat.{ℕ, zero, suc, _+_, _≤_, _<_}
 use mathlib.Core.Path.{_≡_, refl, sym, ap, _∙_, subst}
 use mathlib.Core.List.{List, [], _∷_, _++_}
-use mathlib.Core.Bool.{true}
+use mathlib.Core.Bool.{Bool, true}
 use mathlib.Core.Logic.{_↔_}
 use native.Mathlib.Omega.{arith}
 use native.Mathlib.Numerals.{add-one}
@@ -11,7 +11,7 @@ use lib.Seq.{drop-cons, length-take-le, take-at, drop-at}
 use borrow.Author.Tests.{le-leb}
 use Rattle.words.specs.Tests.{withinOf}
 use Rattle.words.proofs.Laws.{both-make, within-true}
-use Rattle.plan.specs.Plan.{firstLength, totalOf, spotOf, planGood, zeroPlan, zeroPlan?, allZero}
+use Rattle.plan.specs.Plan.{firstLength, totalOf, spotOf, planGood, zeroPlan}
 use Rattle.plan.specs.declared.Plan.{Plan}
 use Rattle.bodies.specs.Named.{planOf, countsOf, lengthsOf}
 use Rattle.bodies.proofs.First.{first-good}
@@ -21,7 +21,7 @@ use Rattle.walk.specs.declared.State.{State}
 use Rattle.walk.specs.declared.Stop.the-variants.{Complete, Pause}
 use Rattle.walk.specs.declared.Turn.the-variants.{Pass, Halt}
 use Rattle.walk.specs.declared.Walked.{Walked}
-use Rattle.walk.proofs.GoodLaws.{good-some}
+use Rattle.walk.proofs.GoodLaws.{good-some, fresh-good}
 use Rattle.walk.proofs.LoopLaws.{walk-pause}
 use Rattle.walk.proofs.TurnLaws.{pass-going, next-as-later}
 use Rattle.promises.specs.Rules.{Kind, volume, leader, image, trailer, kindNumber, First, Due, promised, textRecord, Follow, concat, Accepted}
@@ -145,15 +145,11 @@ plan-lengths leader r = refl
 plan-lengths image r = refl
 plan-lengths trailer r = refl
 
-good-fresh : (kind : Kind) → goodState (fresh (kindNumber kind)) ≡ true
-unfolding goodState zeroPlan? allZero
-good-fresh volume = refl
-good-fresh leader = refl
-good-fresh image = refl
-good-fresh trailer = refl
-
 kind-low : (kind : Kind) → (1 ≤ kindNumber kind) × (kindNumber kind ≤ 4)
 kind-low kind = within-true 1 (kindNumber kind) 4 (kind-known kind)
+
+pub good-fresh : (kind : Kind) → goodState (fresh (kindNumber kind)) ≡ true
+good-fresh kind = fresh-good (kindNumber kind) (kind-low kind .0) (kind-low kind .1)
 
 one-total : (kind : ℕ) (p : Plan) → 0 < totalOf kind p
 unfolding totalOf
@@ -176,10 +172,10 @@ module _ (kind : Kind) (bs : List ℕ) where
       let h = complete-is (kindNumber kind) zeroPlan 0 (nextSpot (fresh (kindNumber kind))) bs .0 e in
       omega (arith, one-total (kindNumber kind) zeroPlan)
 
-  fresh-is : (turnOf (fresh (kindNumber kind)) bs true ≡ Pass) ↔ ((firstLength (kindNumber kind) ≤ length bs) × Fault-free (kindNumber kind) zeroPlan front)
+  pub fresh-is : (c : Bool) → (turnOf (fresh (kindNumber kind)) bs c ≡ Pass) ↔ ((firstLength (kindNumber kind) ≤ length bs) × Fault-free (kindNumber kind) zeroPlan front)
   unfolding spotOf
-  fresh-is =
-      let i = pass-is (kindNumber kind) zeroPlan 0 (nextSpot (fresh (kindNumber kind))) bs true (one-total (kindNumber kind) zeroPlan) (first-least kind) in
+  fresh-is c =
+      let i = pass-is (kindNumber kind) zeroPlan 0 (nextSpot (fresh (kindNumber kind))) bs c (one-total (kindNumber kind) zeroPlan) (first-least kind) in
       (λ e. let q = i .0 e in (q .whole, record { head = q .head; body = q .body }), λ h. i .1 (record { whole = h .0; head = h .1 .head; body = h .1 .body }))
 
   plan-good : Fault-free (kindNumber kind) zeroPlan front → planGood (kindNumber kind) planned ≡ true
@@ -195,7 +191,7 @@ complete-accepted kind bs (suc n) e = go (ends-is (fresh (kindNumber kind)) bs n
     go : Ends (fresh (kindNumber kind)) bs n (good-fresh kind) → Accepted kind bs
     go (now q) = absurd (fresh-going kind bs q)
     go (later q w) =
-        let f = fresh-is kind bs .0 q in
+        let f = fresh-is kind bs true .0 q in
         let r = take (firstLength (kindNumber kind)) bs in
         let p = planOf (kindNumber kind) r in
         let m =
@@ -236,7 +232,7 @@ accepted-complete kind bs (suc n) b a =
     let few : length (a .rest) < n = (let x = follow-length 1 (promised kind p) (a .rest) follow in let y = promised-length kind p (plan-counts kind (take l bs)) (plan-lengths kind (take l bs)) in omega arith) in
     let w = walk-from kind p (plan-good kind bs (f .0)) (plan-counts kind (take l bs)) (plan-lengths kind (take l bs)) (a .rest) n 0 (one-total (kindNumber kind) p) few follow in
     ends-is (fresh (kindNumber kind)) bs n (good-fresh kind) .1
-    (later (fresh-is kind bs .1 (enough, f .0))
+    (later (fresh-is kind bs true .1 (enough, f .0))
     (goes u (subst (λ (st : State). walkOf n st (concat (a .rest)) true .stop ≡ Complete) (sym (next-fresh kind bs)) w)))
   where
     goes : {x : List ℕ} → drop (firstLength (kindNumber kind)) bs ≡ x → walkOf n (nextOf (fresh (kindNumber kind)) bs) x true .stop ≡ Complete

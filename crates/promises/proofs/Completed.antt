@@ -11,7 +11,7 @@ use lib.Seq.{take-length, drop-at}
 use borrow.Author.Tests.{le-leb}
 use Rattle.words.specs.Tests.{pick}
 use Rattle.words.proofs.Laws.{both-make, within-true, true-within}
-use Rattle.plan.specs.Plan.{volume, leader, image, firstLength, totalOf, codesOf, spotOf, planGood, zeroPlan, zeroPlan?, allZero}
+use Rattle.plan.specs.Plan.{volume, leader, image, firstLength, totalOf, codesOf, spotOf, planGood, zeroPlan}
 use Rattle.plan.specs.declared.Plan.{Plan}
 use Rattle.plan.proofs.Bounds.{small-good, total-small}
 use Rattle.bodies.specs.Bodies.{bodyOf}
@@ -25,7 +25,7 @@ use Rattle.walk.specs.declared.State.{State}
 use Rattle.walk.specs.declared.Stop.the-variants.{Complete}
 use Rattle.walk.specs.declared.Turn.the-variants.{Pass}
 use Rattle.walk.specs.declared.Walked.{Walked}
-use Rattle.walk.proofs.GoodLaws.{good-known, good-zero, good-some, good-later}
+use Rattle.walk.proofs.GoodLaws.{good-known, good-some, good-later, fresh-good}
 use Rattle.walk.proofs.LoopLaws.{walk-halt, walk-pass}
 use Rattle.walk.proofs.TurnLaws.{judge-ended, judge-body, next-as-first, next-as-later}
 use Rattle.promises.specs.Bytes.{Bytes}
@@ -190,9 +190,5 @@ completes st g c l = go (enough-some st g c l)
     )
 
 -- so some file of each kind is complete
-pub fresh-good : (kind : ℕ) → 1 ≤ kind → kind ≤ 4 → goodState (fresh kind) ≡ true
-unfolding zeroPlan? allZero
-fresh-good kind a b = good-zero (fresh kind) refl ∙ both-make _ _ (true-within 1 kind 4 a b) refl
-
 pub some-file : (kind : ℕ) → 1 ≤ kind → kind ≤ 4 → (ys : List ℕ) × Bytes ys × ((n : ℕ) → 17000001 < n → walkOf n (fresh kind) ys true .stop ≡ Complete)
 some-file kind a b = completes (fresh kind) (fresh-good kind a b) refl refl

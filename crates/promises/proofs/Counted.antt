@@ -9,20 +9,17 @@ use Rattle.words.specs.declared.Refusal.{Refusal}
 use Rattle.walk.specs.Rule.{goodState}
 use Rattle.walk.specs.Turn.{nextOf, badStop, walkOf}
 use Rattle.walk.specs.declared.State.{State}
-use Rattle.walk.specs.declared.Stop.the-variants.{Pause, Complete, Refused}
+use Rattle.walk.specs.declared.Stop.the-variants.{Wait, Pause, Complete, Refused}
+use Rattle.walk.specs.declared.Turn.the-variants.{Halt}
 use Rattle.walk.proofs.LoopLaws.{walk-bad}
-use Rattle.walk.proofs.TurnLaws.{good-next}
 use Rattle.promises.proofs.Steps.{by-turns}
-use Rattle.promises.proofs.Turns.{open-turn, turn-ordinal, never-pause, pause≢complete, pause≢refused, refused≢pause, refused≢complete, refused-same}
+use Rattle.promises.proofs.Turns.{open-turn, turn-ordinal, never-pause, pause≢complete, pause≢refused, refused≢pause, refused≢complete, refused-same, wait≢refused, wait≢pause}
+use Rattle.promises.proofs.Passing.{closed-turn}
 
 module _ (st : State) (b : List ℕ) where
-  next-passed : nextOf st b .passed ≡ st .passed + 1
+  pub next-passed : nextOf st b .passed ≡ st .passed + 1
   unfolding nextOf
   next-passed = refl
-
-  next-kind : nextOf st b .kind ≡ st .kind
-  unfolding nextOf
-  next-kind = refl
 
 -- the count is the state's difference
 pub counted : (b : ℕ) (st : State) (bs : List ℕ) (c : Bool) → walkOf b st bs c .state .passed ≡ st .passed + walkOf b st bs c .count
@@ -36,18 +33,6 @@ count-within b st bs c =
     by-turns c (λ n s y w u. w .count ≤ n) (λ n s y g. omega arith) (λ s y g. omega arith) (λ n s y x g t. omega arith)
     (λ n s y w u g t e. omega arith) b st bs
 
--- the kind stays
-pub kind-kept : (b : ℕ) (st : State) (bs : List ℕ) (c : Bool) → walkOf b st bs c .state .kind ≡ st .kind
-kind-kept b st bs c =
-    by-turns c (λ n s y w u. w .state .kind ≡ s .kind) (λ n s y g. refl) (λ s y g. refl) (λ n s y x g t. refl)
-    (λ n s y w u g t e. e ∙ next-kind s y) b st bs
-
--- a good state in gives a good state out
-pub good-kept : (b : ℕ) (st : State) (bs : List ℕ) (c : Bool) → goodState st ≡ true → goodState (walkOf b st bs c .state) ≡ true
-good-kept b st bs c =
-    by-turns c (λ n s y w u. goodState s ≡ true → goodState (w .state) ≡ true) (λ n s y g h. h) (λ s y g h. h) (λ n s y x g t h. h)
-    (λ n s y w u g t e h. e (good-next s y c h t)) b st bs
-
 -- a bad state: refusal 11, record 0, place 0; the state given; nothing passed
 pub bad-kept : (b : ℕ) (st : State) (bs : List ℕ) (c : Bool) → goodState st ≡ false
     → walkOf b st bs c ≡ record { state = st; count = 0; stop = Refused (record { number = 11; «record» = 0; place = 0 }) }
@@ -60,6 +45,13 @@ unfolding badStop
 open-never-complete b st bs =
     by-turns false (λ n s y w u. w .stop ≢ Complete) (λ n s y g. refused≢complete) (λ s y g. pause≢complete) (λ n s y x g t. open-turn s y x t)
     (λ n s y w u g t e. e) b st bs
+
+-- and a closed one never waits
+pub closed-never-waits : (b : ℕ) (st : State) (bs : List ℕ) (m : ℕ) → walkOf b st bs true .stop ≢ Wait m
+unfolding badStop
+closed-never-waits b st bs m =
+    by-turns true (λ n s y w u. w .stop ≢ Wait m) (λ n s y g e. wait≢refused (sym e)) (λ s y g e. wait≢pause (sym e))
+    (λ n s y x g t e. closed-turn s y m (t ∙ ap Halt e)) (λ n s y w u g t e. e) b st bs
 
 -- a refused record is the one behind the state handed back: the state is the one before that record
 pub refused-ordinal : (b : ℕ) (st : State) (bs : List ℕ) (c : Bool) (x : Refusal) → walkOf b st bs c .stop ≡ Refused x → x .number ≢ 11

@@ -14,7 +14,8 @@ use Rattle.walk.specs.declared.Stop.the-variants.{Pause}
 use Rattle.walk.specs.declared.Walked.{Walked}
 use Rattle.walk.proofs.GoodLaws.{good-later}
 use Rattle.promises.proofs.Turns.{refused≢pause}
-use Rattle.promises.proofs.Counted.{counted, kind-kept, good-kept, bad-kept, pause-counted}
+use Rattle.walk.proofs.KeptLaws.{kind-kept, good-kept}
+use Rattle.promises.proofs.Counted.{counted, bad-kept, pause-counted}
 
 -- any state: a budget that goes past what the plan handed back has left
 pub enough-left : (b : ℕ) (st : State) (bs : List ℕ) (c : Bool) → totalOf (st .kind) (walkOf b st bs c .state .plan) < st .passed + b

@@ -34,3 +34,12 @@ pub mod Ends
 pub mod BitesOpen
 pub mod PlanNamed
 pub mod Records
+pub mod FirstPasses
+pub mod LineNamed
+pub mod Uniform
+pub mod LinesApart
+pub mod LineStays
+pub mod RowNamed
+pub mod AcceptedLines
+pub mod SetAgrees
+pub mod BitesRows

@@ -10,11 +10,16 @@ use Rattle.fields.specs.Field.{fieldAt}
 use Rattle.fields.specs.Listed.{listedField}
 use Rattle.plan.specs.Plan.{planGood}
 use Rattle.plan.specs.declared.Plan.{Plan}
-use Rattle.bodies.specs.Bodies.{bodyOf}
+use Rattle.bodies.specs.Bodies.{numberAt, bodyOf}
 use Rattle.bodies.specs.Named.{planOf}
 use Rattle.walk.specs.Rule.{fresh, startOf}
-use Rattle.walk.specs.Turn.{walkOf, beginOf}
+use Rattle.walk.specs.Turn.{headerOf, walkOf, beginOf}
 use Rattle.walk.specs.declared.State.{State}
+use Rattle.plan.specs.declared.Codes.{Codes}
+use Rattle.lines.specs.View.{viewOf, pixelsOf}
+use Rattle.lines.specs.Row.{copiedOf, rowOf}
+use Rattle.sets.specs.Set.{setOf}
+use lib.ListN.{length}
 
 -- two answers that both fit the promise are one
 abbrev pub Only : {A : Type 0} → A → Type 0
@@ -26,12 +31,18 @@ pub record OneAnswer : Type 0 where
   pub listed-field : (bytes : List ℕ) (number : ℕ) → Only (listedField bytes number)
   pub good : (kind : ℕ) (p : Plan) → Only (planGood kind p)
   pub judge : (kind run : ℕ) (p : Plan) (k : ℕ) (bytes : List ℕ) → Only (bodyOf kind run p k bytes)
+  pub number-at : (bytes : List ℕ) (byte : ℕ) (k : Form) → Only (numberAt bytes byte k)
   pub plan-of : (kind : ℕ) (bytes : List ℕ) → Only (planOf kind bytes)
   pub none : Only (fresh 0)
   pub begin : (kind : ℕ) → Only (beginOf kind)
   pub start : (st : State) → Only (startOf st)
   pub walk : (budget : ℕ) (st : State) (bytes : List ℕ) (closed : Bool) → Only (walkOf budget st bytes closed)
   pub step : (st : State) (bytes : List ℕ) (closed : Bool) → Only (walkOf 1 st bytes closed)
+  pub header : (ordinal : ℕ) (c : Codes) (long : ℕ) (bytes : List ℕ) → Only (headerOf ordinal c long bytes)
+  pub line-view : (bytes : List ℕ) (k : ℕ) → Only (viewOf bytes k)
+  pub pixels : (bytes : List ℕ) (k : ℕ) → Only (pixelsOf bytes k)
+  pub row-copy : (bytes : List ℕ) (k : ℕ) (row : List ℕ) → Only (copiedOf bytes k (length row)) × Only (rowOf bytes k row)
+  pub check : (directory counts : List ℕ) → Only (setOf directory counts)
 
 pub one-answers : OneAnswer
 one-answers =
@@ -41,10 +52,16 @@ one-answers =
       listed-field = λ bytes number r r′ p q. one-answer p q;
       good = λ kind p r r′ a q. one-answer a q;
       judge = λ kind run p k bytes r r′ a q. one-answer a q;
+      number-at = λ bytes byte k r r′ p q. one-answer p q;
       plan-of = λ kind bytes r r′ p q. one-answer p q;
       none = λ r r′ p q. one-answer p q;
       begin = λ kind r r′ p q. one-answer p q;
       start = λ st r r′ p q. one-answer p q;
       walk = λ budget st bytes closed r r′ p q. one-answer p q;
       step = λ st bytes closed r r′ p q. one-answer p q;
+      header = λ ordinal c long bytes r r′ p q. one-answer p q;
+      line-view = λ bytes k r r′ p q. one-answer p q;
+      pixels = λ bytes k r r′ p q. one-answer p q;
+      row-copy = λ bytes k row. (λ r r′ p q. one-answer p q, λ r r′ p q. one-answer p q);
+      check = λ directory counts r r′ p q. one-answer p q;
     }

@@ -1,44 +1,43 @@
 -- States of one's own: calls begun fresh, over any pieces, say together what one call on all the bytes passed says, since a record that passed passes again on its own bytes alone.
 use Prim.Native.Nat.{ℕ, zero, suc, _+_, _-_, _≤_, _<_}
-use mathlib.Core.Path.{_≡_, refl, sym, ap, ap₂, _∙_, subst}
+use mathlib.Core.Path.{_≡_, refl, sym, ap, ap₂, _∙_}
 use mathlib.Core.List.{List, [], _∷_, _++_, append-assoc}
 use mathlib.Core.Bool.{Bool, true, false}
 use mathlib.Core.Logic.{⊎-elim}
 use native.Mathlib.Nat.{zero-add, suc-add}
 use native.Mathlib.Omega.{arith}
-use lib.Dec.{eqb, leb, ltb}
-use lib.ListN.{length, take, drop, length-append, take-append-drop}
-use lib.Seq.{length-take-le, take-at, drop-at, take-length, take-take, take-nil}
-use borrow.Author.Tests.{eq-eqb, ne-eqb, eqb-true, eqb-false, leb-false, ltb-false}
+use lib.Dec.{eqb}
+use lib.ListN.{length, take, drop}
+use lib.Seq.{length-take-le, drop-at, take-length, take-take, take-nil}
+use borrow.Author.Tests.{eqb-true, eqb-false}
 use Rattle.words.specs.Tests.{pick}
 use Rattle.words.proofs.Laws.{cases, within-true}
-use Rattle.plan.specs.Plan.{totalOf, codesOf, spotOf, firstLength, planGood}
+use Rattle.plan.specs.Plan.{totalOf, firstLength}
 use Rattle.plan.specs.declared.Plan.{Plan}
 use Rattle.plan.specs.declared.Spot.{Spot}
 use Rattle.plan.proofs.CodeLaws.{spot-first}
 use Rattle.bodies.specs.Bodies.{bodyOf}
 use Rattle.bodies.specs.Named.{planOf}
 use Rattle.bodies.specs.declared.Verdict.{Verdict}
-use Rattle.bodies.specs.declared.Verdict.the-variants.{Fine}
 use Rattle.walk.specs.Rule.{fresh, goodState, nextSpot}
-use Rattle.walk.specs.Turn.{turnOf, nextOf, onFine, headerOf, stopped, more, badStop, walkOf}
+use Rattle.walk.specs.Turn.{turnOf, nextOf, onFine, stopped, more, badStop, walkOf}
 use Rattle.walk.specs.declared.State.{State}
 use Rattle.walk.specs.declared.Stop.{Stop}
 use Rattle.walk.specs.declared.Stop.the-variants.{Pause}
-use Rattle.walk.specs.declared.Turn.the-variants.{Pass, Halt}
+use Rattle.walk.specs.declared.Turn.the-variants.{Pass}
 use Rattle.walk.specs.declared.Walked.{Walked}
-use Rattle.walk.proofs.GoodLaws.{good-known, good-later}
-use Rattle.walk.proofs.TurnLaws.{pass-parts, pass-long, pass-going, judge-body, good-next}
+use Rattle.walk.proofs.GoodLaws.{good-known, good-later, fresh-good}
+use Rattle.walk.proofs.TurnLaws.{pass-parts, pass-long, pass-going, judge-body}
 use Rattle.walk.proofs.LoopLaws.{walk-pass, more-none}
 use Rattle.promises.specs.Rules.{Kind, volume, leader, image, trailer, kindNumber}
 use Rattle.promises.specs.Pieces.{usedOf}
 use Rattle.promises.specs.Arriving.{Own, begun, again}
 use Rattle.promises.proofs.Steps.{by-turns}
 use Rattle.promises.proofs.Turns.{turn-pass-stays, next-stays}
-use Rattle.promises.proofs.Counted.{good-kept}
+use Rattle.walk.proofs.KeptLaws.{good-kept}
 use Rattle.promises.proofs.Parts.{header-take}
 use Rattle.promises.proofs.WitnessLater.{later-twelve}
-use Rattle.promises.proofs.Completed.{named-counts, named-lengths, fresh-good}
+use Rattle.promises.proofs.Completed.{named-counts, named-lengths}
 
 -- a plan's lists have the 17 rows of the code's arrays
 abbrev pub Rows : State → Type 0

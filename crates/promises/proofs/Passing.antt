@@ -18,7 +18,8 @@ use Rattle.bodies.specs.declared.Verdict.the-variants.{Fine, Fault}
 use Rattle.walk.specs.Rule.{goodState, nextSpot}
 use Rattle.walk.specs.Turn.{onFine, headerOf, judgeOf, turnOf, nextOf, endedOf, shortOf, refusedAt, walkOf}
 use Rattle.walk.specs.declared.State.{State}
-use Rattle.walk.specs.declared.Stop.the-variants.{Complete}
+use Rattle.walk.specs.declared.Stop.{Stop}
+use Rattle.walk.specs.declared.Stop.the-variants.{Wait, Complete}
 use Rattle.walk.specs.declared.Turn.{Turn}
 use Rattle.walk.specs.declared.Turn.the-variants.{Pass, Halt}
 use Rattle.walk.specs.declared.Walked.{Walked}
@@ -43,6 +44,41 @@ complete-parts false e false z (Fault n p) t o a q = absurd (refused≢complete 
 complete-parts false e false true Fine t o a q = absurd (refused≢complete _ _ _ _ q)
 complete-parts false e false false Fine (Fault n p) o a q = absurd (refused≢complete _ _ _ _ q)
 complete-parts false e false false Fine Fine o a q = absurd (pass≢complete q)
+
+-- a closed turn never waits
+module _ (n : ℕ) where
+  halts-not : (s : Stop) → (s ≡ Wait n → ⊥) → Halt s ≡ Halt (Wait n) → ⊥
+  halts-not s h e = h (halted e)
+    where
+      halted : {x y : Stop} → Halt x ≡ Halt y → x ≡ y
+      halted e = cc
+
+  refused≢wait : (o a m t : ℕ) → refusedAt o a m t ≡ Wait n → ⊥
+  refused≢wait o a m t e = let z : _≡_ {A = ℕ} 0 1 = cc in omega arith
+
+  complete≢wait : Complete ≡ Wait n → ⊥
+  complete≢wait e = let z : _≡_ {A = ℕ} 0 1 = cc in omega arith
+
+  pass≢halt : Pass ≡ Halt (Wait n) → ⊥
+  pass≢halt e = let z : _≡_ {A = ℕ} 0 1 = cc in omega arith
+
+  wait-parts : (x e y z : Bool) (h t : Verdict) (o a : ℕ)
+      → pick x (Halt (pick e Complete (refusedAt o a 9 0))) (pick y (Halt (refusedAt o a 2 0)) (onFine h o a (pick z (Halt (refusedAt o a 2 0)) (onFine t o a Pass)))) ≡ Halt (Wait n) → ⊥
+  wait-parts true true y z h t o a q = halts-not _ complete≢wait q
+  wait-parts true false y z h t o a q = halts-not _ (refused≢wait o a 9 0) q
+  wait-parts false e true z h t o a q = halts-not _ (refused≢wait o a 2 0) q
+  wait-parts false e false z (Fault m p) t o a q = halts-not _ (refused≢wait o a m p) q
+  wait-parts false e false true Fine t o a q = halts-not _ (refused≢wait o a 2 0) q
+  wait-parts false e false false Fine (Fault m p) o a q = halts-not _ (refused≢wait o a m p) q
+  wait-parts false e false false Fine Fine o a q = pass≢halt q
+
+pub closed-turn : (st : State) (b : List ℕ) (n : ℕ) → turnOf st b true ≡ Halt (Wait n) → ⊥
+unfolding judgeOf endedOf shortOf
+closed-turn st b n e =
+    let s = nextSpot st in
+    let k = st .passed in
+    wait-parts n (leb (totalOf (st .kind) (st .plan)) k) (eqb (length b) 0) (ltb (length b) 12) (ltb (length b) (s .length))
+    (headerOf (k + 1) (codesOf (st .kind) (s .run)) (s .length) b) (bodyOf (st .kind) (s .run) (st .plan) k (take (s .length) b)) (k + 1) (s .start) e
 
 module _ (kind : ℕ) (p : Plan) (k : ℕ) (s : Spot) (b : List ℕ) where
   complete-to : judgeOf kind p k s b true ≡ Halt Complete → (totalOf kind p ≤ k) × (length b ≡ 0)

@@ -1,5 +1,5 @@
 -- `plan-named`: behind the first record the state's plan is the numbers that the rules name in it, since the record that passed is a first record of the rules; so a budget above that plan's records never pauses (`enough-planned`).
-use Prim.Native.Nat.{ℕ, zero, suc, _+_, _≤_, _<_}
+use Prim.Native.Nat.{ℕ, zero, suc, _≤_, _<_}
 use mathlib.Core.Path.{_≡_, refl, sym, ap, _∙_, subst}
 use mathlib.Core.Bool.{Bool, true, false}
 use mathlib.Core.List.{List}
@@ -8,11 +8,9 @@ use lib.ListN.{length, take, drop}
 use lib.Seq.{length-take-le}
 use Rattle.plan.specs.Plan.{firstLength, spotOf, zeroPlan, codesOf, totalOf}
 use Rattle.plan.specs.declared.Plan.{Plan}
-use Rattle.bodies.specs.Bodies.{bodyOf}
 use Rattle.bodies.specs.Named.{planOf}
-use Rattle.bodies.specs.declared.Verdict.the-variants.{Fine}
 use Rattle.walk.specs.Rule.{fresh, goodState, nextSpot}
-use Rattle.walk.specs.Turn.{turnOf, nextOf, headerOf, walkOf, stopped, more, badStop}
+use Rattle.walk.specs.Turn.{turnOf, nextOf, walkOf}
 use Rattle.walk.specs.declared.State.{State}
 use Rattle.walk.specs.declared.Stop.the-variants.{Pause}
 use Rattle.walk.specs.declared.Turn.{Turn}
@@ -21,18 +19,17 @@ use Rattle.walk.specs.declared.Walked.{Walked}
 use Rattle.walk.proofs.LoopLaws.{walk-bad, walk-halt, walk-pass, walk-pause}
 use Rattle.walk.proofs.TurnLaws.{pass-parts, pass-long}
 use mathlib.Core.Logic.{_⊎_, inl, inr, _≢_}
-use lib.Dec.{eqb}
 use borrow.Author.Tests.{ne-eqb}
 use Rattle.words.specs.Tests.{pick}
 use Rattle.words.proofs.Laws.{cases}
 use Rattle.promises.proofs.Steps.{by-turns}
-use Rattle.promises.specs.Rules.{Kind, volume, leader, image, trailer, kindNumber, First}
+use Rattle.promises.specs.Rules.{Kind, kindNumber, First}
 use Rattle.promises.specs.Demands.{plannedTotal}
-use Rattle.promises.proofs.Counted.{pause-counted}
+use Rattle.promises.proofs.Counted.{next-passed, pause-counted}
 use Rattle.promises.proofs.Enough.{enough}
 use Rattle.promises.proofs.Parts.{header-take}
 use Rattle.promises.proofs.Least.{first-least}
-use Rattle.promises.proofs.FirstIs.{Fault-free, first-is}
+use Rattle.promises.proofs.FirstIs.{first-is}
 
 -- the first record that passed, by the rules
 pub first-passed : (kind : Kind) (bs : List ℕ) (c : Bool) → turnOf (fresh (kindNumber kind)) bs c ≡ Pass
@@ -45,10 +42,6 @@ first-passed kind bs c t =
     let long : l ≤ length bs = pass-long k zeroPlan 0 (nextSpot (fresh k)) bs c t in
     first-is kind zeroPlan (take l bs) (length-take-le l bs long) .0 (record { head = header-take 1 (codesOf k 0) l l bs (first-least kind) ∙ q .head; body = q .body })
 
-next-passed : (s : State) (y : List ℕ) → nextOf s y .passed ≡ s .passed + 1
-unfolding nextOf
-next-passed s y = refl
-
 next-plan : (s : State) (y : List ℕ) → (s .passed ≡ 0 → ⊥) → nextOf s y .plan ≡ s .plan
 unfolding nextOf
 next-plan s y h = ap (λ (b : Bool). pick b (planOf (s .kind) (take (nextSpot s .length) y)) (s .plan)) (ne-eqb (s .passed) 0 h)
@@ -60,7 +53,7 @@ plan-kept b st bs c =
     (λ n s y w u g t i h. i (λ e. let q = next-passed s y in omega arith) ∙ next-plan s y h) b st bs
 
 -- a walk begun fresh that has passed a record passed the file's first, and its plan is the one behind that record
-first-walked : (kind : Kind) (bs : List ℕ) (c : Bool) (n : ℕ) → (walkOf n (fresh (kindNumber kind)) bs c .count ≡ 0 → ⊥)
+pub first-walked : (kind : Kind) (bs : List ℕ) (c : Bool) (n : ℕ) → (walkOf n (fresh (kindNumber kind)) bs c .count ≡ 0 → ⊥)
     → (turnOf (fresh (kindNumber kind)) bs c ≡ Pass) × (walkOf n (fresh (kindNumber kind)) bs c .state .plan ≡ nextOf (fresh (kindNumber kind)) bs .plan)
 first-walked kind bs c n h = go n h (cases (goodState st)) (turnOf st bs c) refl
   where

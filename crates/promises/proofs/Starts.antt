@@ -22,7 +22,8 @@ use Rattle.walk.specs.declared.State.{State}
 use Rattle.walk.specs.declared.Walked.{Walked}
 use Rattle.promises.specs.Pieces.{usedOf}
 use Rattle.promises.proofs.Steps.{by-turns, used-bad}
-use Rattle.promises.proofs.Counted.{good-kept, bad-kept}
+use Rattle.walk.proofs.KeptLaws.{good-kept}
+use Rattle.promises.proofs.Counted.{bad-kept}
 
 -- one run and those behind it
 module _ (i c l : ℕ) (cs ls : List ℕ) (k at : ℕ) where

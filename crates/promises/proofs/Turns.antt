@@ -85,7 +85,7 @@ module _ (Q : Stop → Type 0) (st : State) (b : List ℕ) (c : Bool) (x : Stop)
   pub halt-is : Q (pick c Complete (Wait 0)) → ((n : ℕ) → Q (Wait n)) → ((n p : ℕ) → Q (refusedAt (st .passed + 1) (nextSpot st .start) n p)) → turnOf st b c ≡ Halt x → Q x
   halt-is qc qw qr e = halt-of qc qw (qr 9 0) (qr 2 0) (λ n p h. qr n p) (λ n p h. qr n p) e
 
-wait≢pause : {n : ℕ} → Wait n ≡ Pause → ⊥
+pub wait≢pause : {n : ℕ} → Wait n ≡ Pause → ⊥
 wait≢pause e = let z : _≡_ {A = ℕ} 0 1 = cc in omega arith
 
 wait≢complete : {n : ℕ} → Wait n ≡ Complete → ⊥

@@ -1,12 +1,12 @@
 -- The demands as predicates over any walk function, so that they can be held against wrong ones; and document 01's wrong programs ("How much each
 -- promise says"). Assumes nothing.
-use Prim.Native.Nat.{ℕ, zero, suc, _+_, _<_}
+use Prim.Native.Nat.{ℕ, zero, suc, _+_, _≤_, _<_}
 use mathlib.Core.Path.{_≡_}
 use mathlib.Core.Logic.{_↔_, _⊎_}
 use mathlib.Core.Bool.{Bool, true, false}
-use mathlib.Core.List.{List, []}
+use mathlib.Core.List.{List}
 use lib.Dec.{eqb, leb}
-use lib.ListN.{length, take, drop}
+use lib.ListN.{length, getD, take, drop}
 use Rattle.words.specs.Tests.{pick, bothOf}
 use Rattle.words.specs.declared.Refusal.{Refusal}
 use Rattle.plan.specs.Plan.{totalOf, firstLength}
@@ -14,11 +14,15 @@ use Rattle.bodies.specs.Named.{planOf}
 use Rattle.walk.specs.Rule.{fresh, goodState, nextSpot}
 use Rattle.walk.specs.Turn.{walkOf, turnOf, nextOf, stopped, more, badStop, onTurn}
 use Rattle.walk.specs.declared.State.{State}
-use Rattle.walk.specs.declared.Stop.{Stop}
 use Rattle.walk.specs.declared.Stop.the-variants.{Wait, Pause, Complete, Refused}
 use Rattle.walk.specs.declared.Turn.{Turn}
 use Rattle.walk.specs.declared.Turn.the-variants.{Pass}
 use Rattle.walk.specs.declared.Walked.{Walked}
+use Rattle.plan.specs.declared.Plan.{Plan}
+use Rattle.lines.specs.Row.{copiedOf, rowOf}
+use Rattle.lines.specs.declared.Copied.{Copied}
+use Rattle.lines.specs.declared.Copied.the-variants.{Done}
+use Rattle.promises.specs.Shown.{Stands, lineRecord, dataCount, dataPixels, sample}
 use Rattle.promises.specs.Rules.{Kind, kindNumber, Accepted}
 use Rattle.promises.specs.Arriving.{Starts, Waits, Refuses, AtRecordEnd}
 
@@ -44,7 +48,37 @@ Demand3 W = (kind : Kind) (bs : List ℕ) (n : ℕ) → (plannedTotal kind bs < 
 abbrev pub Counted : Walk → Type 0
 Counted W = (n : ℕ) (st : State) (bs : List ℕ) (c : Bool) → W n st bs c .state .passed ≡ st .passed + W n st bs c .count
 
+-- ---- rows
+
+-- a row copy: bytes, line number, row; its answer, and the row behind it
+pub record Copy : Type 0 where
+  pub answer : Copied
+  pub row : List ℕ
+
+abbrev pub RowCopy : Type 0
+RowCopy = List ℕ → ℕ → List ℕ → Copy
+
+-- demand 2 for rows: of a line that stands there and fits the row, each sample is the one the rules name, high byte first, and later samples stay
+abbrev pub Copies : RowCopy → Type 0
+Copies R = (bs : List ℕ) (k : ℕ) (p : Plan) (row : List ℕ) → Stands bs k p → dataCount (lineRecord p k bs) ≤ length row
+    → (R bs k row .answer ≡ Done (dataCount (lineRecord p k bs)))
+    × ((j : ℕ) → j < dataCount (lineRecord p k bs) → getD (R bs k row .row) j 0 ≡ sample (dataPixels 2 p (lineRecord p k bs)) j)
+    × ((j : ℕ) → dataCount (lineRecord p k bs) ≤ j → getD (R bs k row .row) j 0 ≡ getD row j 0)
+    × (length (R bs k row .row) ≡ length row)
+
+-- demand 1 for rows: on a wait or a refusal every sample stays
+abbrev pub Keeps : RowCopy → Type 0
+Keeps R = (bs : List ℕ) (k : ℕ) (row : List ℕ) → ((n : ℕ) → R bs k row .answer ≡ Done n → ⊥) → R bs k row .row ≡ row
+
+-- ours
+abbrev pub copier : RowCopy
+copier bs k row = record { answer = copiedOf bs k (length row); row = rowOf bs k row }
+
 -- ---- wrong programs
+
+-- a row copy that writes nothing
+abbrev pub idler : RowCopy
+idler bs k row = record { answer = copiedOf bs k (length row); row = row }
 
 -- always refusing
 abbrev pub refuser : Refusal → Walk

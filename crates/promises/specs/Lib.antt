@@ -1,4 +1,4 @@
--- The specs of `promises`: what a file is, and how many bytes a walk passed.
+-- The specs of `promises`: what a file is, what is shown of it, and the demands.
 pub mod Rules
 pub mod Pieces
 pub mod Examples
@@ -6,3 +6,4 @@ pub mod Bytes
 pub mod Arriving
 pub mod Demands
 pub mod Witness
+pub mod Shown

@@ -4,6 +4,7 @@
 ghost use Prim.Native.Nat.{_≤_};
 ghost use lib.ListN.{length};
 use libc::STDOUT_FILENO;
+use words::Refusal;
 
 // A number that was read, and the place behind it.
 pub struct Taken {
@@ -117,6 +118,41 @@ pub fn put(b: &mut [u8], at: usize, text: &[u8]) {
     }
 }
 
+// The commands that change the bytes held: `c VALUE` all of them, `p BYTE:TEXT` a text from byte BYTE
+// (from 1) on, `b BYTE VALUE` one byte, `q BYTE VALUE` a four-byte number, high byte first. Any other
+// operation changes nothing. `a` is the line's first number.
+pub fn change(line: &[u8], op: u8, a: Taken, held: &mut [u8]) {
+    let at = within(a.value, held.len());
+    let to = words::place(at);
+    let v = after(line, a).value;
+    if op == b'c' {
+        fill(held, (a.value % 256) as u8);
+    } else if op == b'p' {
+        put(held, to, text(line, a));
+    } else if op == b'b' {
+        put(held, to, &[(v % 256) as u8]);
+    } else if op == b'q' {
+        put(
+            held,
+            to,
+            &[
+                (v / 16777216 % 256) as u8,
+                (v / 65536 % 256) as u8,
+                (v / 256 % 256) as u8,
+                (v % 256) as u8,
+            ],
+        );
+    }
+}
+
+// The bytes that a command names, as far as they are held.
+pub fn part(held: &[u8], from: u64, long: u64) -> &[u8] {
+    let a = within(from, held.len());
+    let n = within(long, held.len() - a);
+    let e = a + n;
+    &held[a..e]
+}
+
 // Words, and a blank and a number, on standard output.
 pub fn say(words: &[u8]) {
     io::write_all(STDOUT_FILENO, words);
@@ -146,4 +182,13 @@ pub fn say_signed(v: i64) {
     } else {
         say_number(magnitude(v));
     }
+}
+
+pub fn say_refusal(r: Refusal) {
+    say(b"REFUSED");
+    say_number(r.number);
+    say(b" RECORD");
+    say_number(r.record);
+    say(b" AT");
+    say_number(r.place);
 }

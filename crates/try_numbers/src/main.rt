@@ -13,7 +13,6 @@
 use decimal::Form;
 use decimal::Written;
 use fields::Field;
-use script::Taken;
 
 fn form_of(n: u64) -> Form {
     match n {
@@ -48,14 +47,7 @@ fn say_field(f: Field) {
             script::say_signed(e);
         }
         Field::Blank => script::say(b"BLANK"),
-        Field::Refused(r) => {
-            script::say(b"REFUSED");
-            script::say_number(r.number);
-            script::say(b" RECORD");
-            script::say_number(r.record);
-            script::say(b" AT");
-            script::say_number(r.place);
-        }
+        Field::Refused(r) => script::say_refusal(r),
     }
     script::say(b"\n");
 }
@@ -85,13 +77,6 @@ fn ask(line: &[u8], op: u8, held: &[u8]) {
     }
 }
 
-fn one_byte(line: &[u8], a: Taken, held: &mut [u8]) {
-    let b = script::after(line, a);
-    let at = script::within(a.value, held.len());
-    let v = [(b.value % 256) as u8];
-    script::put(held, words::place(at), &v);
-}
-
 fn command(line: &[u8], held: &mut [u8]) {
     if line.len() == 0 {
         return;
@@ -103,14 +88,8 @@ fn command(line: &[u8], held: &mut [u8]) {
         script::say(b"\n");
     } else if op == b'd' {
         say_written(decimal::read(script::text(line, a), form_of(a.value)));
-    } else if op == b'c' {
-        script::fill(held, (a.value % 256) as u8);
-    } else if op == b'p' {
-        let at = script::within(a.value, held.len());
-        script::put(held, words::place(at), script::text(line, a));
-    } else if op == b'b' {
-        one_byte(line, a, held);
     } else {
+        script::change(line, op, a, held);
         ask(line, op, held);
     }
 }

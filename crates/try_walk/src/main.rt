@@ -17,16 +17,6 @@ use walk::Beginning;
 use walk::State;
 use walk::Stop;
 use walk::Walked;
-use words::Refusal;
-
-fn say_refusal(r: Refusal) {
-    script::say(b"REFUSED");
-    script::say_number(r.number);
-    script::say(b" RECORD");
-    script::say_number(r.record);
-    script::say(b" AT");
-    script::say_number(r.place);
-}
 
 fn say_walked(w: Walked) {
     let stop = w.stop;
@@ -37,7 +27,7 @@ fn say_walked(w: Walked) {
         }
         Stop::Pause => script::say(b"PAUSE"),
         Stop::Complete => script::say(b"COMPLETE"),
-        Stop::Refused(r) => say_refusal(r),
+        Stop::Refused(r) => script::say_refusal(r),
     }
     script::say(b" COUNT");
     script::say_number(w.count);
@@ -52,18 +42,10 @@ fn begun(st: State, kind: u64) -> State {
     let answer = b.answer;
     match answer {
         Beginning::Fresh => script::say(b"BEGUN"),
-        Beginning::Unknown(r) => say_refusal(r),
+        Beginning::Unknown(r) => script::say_refusal(r),
     }
     script::say(b"\n");
     b.state
-}
-
-// The bytes that a command names, as far as they are held.
-fn part(held: &[u8], from: u64, long: u64) -> &[u8] {
-    let a = script::within(from, held.len());
-    let n = script::within(long, held.len() - a);
-    let e = a + n;
-    &held[a..e]
 }
 
 fn walked(line: &[u8], op: u8, held: &[u8], st: State) -> State {
@@ -71,7 +53,7 @@ fn walked(line: &[u8], op: u8, held: &[u8], st: State) -> State {
     let long = script::after(line, from);
     let closed = script::after(line, long);
     let budget = script::after(line, closed);
-    let bytes = part(held, from.value, long.value);
+    let bytes = script::part(held, from.value, long.value);
     let w = if op == b't' {
         st.step(bytes, closed.value != 0)
     } else {
@@ -169,31 +151,6 @@ fn with_number(st: State, i: u64, v: u64) -> State {
     t
 }
 
-// The commands that change the bytes held.
-fn change(line: &[u8], op: u8, a: Taken, held: &mut [u8]) {
-    let at = script::within(a.value, held.len());
-    let to = words::place(at);
-    let v = script::after(line, a).value;
-    if op == b'c' {
-        script::fill(held, (a.value % 256) as u8);
-    } else if op == b'p' {
-        script::put(held, to, script::text(line, a));
-    } else if op == b'b' {
-        script::put(held, to, &[(v % 256) as u8]);
-    } else if op == b'q' {
-        script::put(
-            held,
-            to,
-            &[
-                (v / 16777216 % 256) as u8,
-                (v / 65536 % 256) as u8,
-                (v / 256 % 256) as u8,
-                (v % 256) as u8,
-            ],
-        );
-    }
-}
-
 // The commands that ask the state, or set it.
 fn ask(line: &[u8], op: u8, a: Taken, st: State) -> State {
     if op == b'g' {
@@ -232,7 +189,7 @@ fn command(line: &[u8], held: &mut [u8], st: State) -> State {
     if op == b't' {
         return walked(line, op, held, st);
     }
-    change(line, op, a, held);
+    script::change(line, op, a, held);
     ask(line, op, a, st)
 }
 

@@ -1,16 +1,16 @@
 -- The state rule by its cases, and what a good state gives the arithmetic of a turn: by the bounds that `plan` shows of each plan that the rules allow.
-use Prim.Native.Nat.{_≤_}
-use mathlib.Core.Path.{_≡_, sym, _∙_}
+use Prim.Native.Nat.{ℕ, _≤_}
+use mathlib.Core.Path.{_≡_, refl, sym, _∙_}
 use mathlib.Core.Bool.{true}
 use mathlib.Core.Logic.{⊎-elim}
 use native.Mathlib.Omega.{arith}
 use lib.Dec.{eqb, leb}
 use borrow.Author.Tests.{eq-eqb, ne-eqb, eqb-true, eqb-false, leb-true}
 use Rattle.words.specs.Tests.{bothOf, withinOf}
-use Rattle.words.proofs.Laws.{both-l, both-r, cases}
-use Rattle.plan.specs.Plan.{zeroPlan?, planGood, totalOf}
+use Rattle.words.proofs.Laws.{both-l, both-r, both-make, true-within, cases}
+use Rattle.plan.specs.Plan.{allZero, zeroPlan?, planGood, totalOf}
 use Rattle.plan.proofs.Bounds.{small-good, small-zero}
-use Rattle.walk.specs.Rule.{goodState, Ready}
+use Rattle.walk.specs.Rule.{fresh, goodState, Ready}
 use Rattle.walk.specs.declared.State.{State}
 
 module _ (st : State) where
@@ -44,3 +44,7 @@ module _ (st : State) where
       let q = good-later g (eqb-false (st .passed) 0 z) in
       record { small = small-good (st .kind) (st .plan) (q .0); within = q .1 })
       (cases (eqb (st .passed) 0))
+
+pub fresh-good : (kind : ℕ) → 1 ≤ kind → kind ≤ 4 → goodState (fresh kind) ≡ true
+unfolding zeroPlan? allZero
+fresh-good kind a b = good-zero (fresh kind) refl ∙ both-make _ _ (true-within 1 kind 4 a b) refl

@@ -106,7 +106,7 @@ fn codes_are(b: &[u8], c: Codes) -> bool
 }
 
 // A record's first twelve bytes: sequence number (3), codes (4), length (5).
-fn header(ordinal: u64, c: Codes, long: u64, b: &[u8]) -> Verdict
+pub fn header(ordinal: u64, c: Codes, long: u64, b: &[u8]) -> Verdict
     ensures { λ r. ⌜ r ≡ headerOf ordinal c long (now (b .entry)) ⌝ }
 {
     if words::four(b, 0) != ordinal {

@@ -1,0 +1,82 @@
+-- A shown line's data pixels lie inside its record, which is held whole: the fills add up to w, d is a sample's bytes times w, and d and s fit L. Over the sample size.
+use Prim.Native.Nat.{ℕ, zero, suc, _+_, _-_, _*_, _≤_, _<_}
+use mathlib.Core.Path.{_≡_, refl, sym, ap, _∙_, subst}
+use mathlib.Core.List.{List}
+use native.Mathlib.Omega.{arith}
+use native.Mathlib.Nat.{mul-add}
+use lib.ListN.{length}
+use borrow.Author.Tests.{lt-ltb, eqb-true}
+use Rattle.words.specs.Words.{fourAt, placeOf}
+use Rattle.words.proofs.Laws.{within-true}
+use Rattle.plan.specs.Plan.{image, group, ahead, firstLength, runCounts, runLengths, spotFrom, spotOf, codesOf}
+use Rattle.plan.specs.declared.Plan.{Plan}
+use Rattle.plan.specs.declared.Spot.{Spot}
+use Rattle.bodies.specs.Tests.{firstFault, andThen}
+use Rattle.bodies.specs.Bodies.{lineTests, imageRecord, bodyTests, bodyOf}
+use Rattle.bodies.specs.declared.Verdict.{Verdict}
+use Rattle.bodies.specs.declared.Verdict.the-variants.{Fine, Fault}
+use Rattle.bodies.proofs.Holding.{fine-holds}
+use Rattle.walk.specs.Turn.{headerOf}
+use Rattle.walk.proofs.TurnLaws.{not-fine}
+use Rattle.lines.specs.View.{leftOf, dataOf, pixelsFrom, foundIn, recordAt, firstOf, viewOf, Lined}
+use Rattle.lines.specs.declared.View.the-variants.{Shown}
+use Rattle.lines.proofs.LinedLaws.{lined}
+use Rattle.lines.proofs.ViewLaws.{Seen, line-seen, view-line}
+
+-- line k's record: the run of lines, L bytes, behind the first record and the lines before it
+pub line-spot : (p : Plan) (k : ℕ) → k < p .n → spotOf image p (suc k) ≡ record { run = 1; length = p .l; start = 720 + k * p .l }
+unfolding spotOf spotFrom runCounts runLengths firstLength
+line-spot p k h = simp (lt-ltb _ _ h)
+
+-- the data pixels of a line, of g bytes each, end before the suffix
+pub data-fits : (g : ℕ) (p : Plan) (left count right : ℕ) → p .d ≡ g * p .w → ahead + p .d + p .s ≤ p .l → left + count + right ≡ p .w
+    → pixelsFrom p + g * left + g * count ≤ p .l - p .s
+data-fits g p left count right e h f =
+    let a : g * p .w ≡ g * (left + count + right) = ap (λ (w : ℕ). g * w) (sym f) in
+    omega (arith, mul-add g (left + count) right, mul-add g left count)
+
+-- header and body, apart and together
+then-fine : (h t : Verdict) → andThen h t ≡ Fine → (h ≡ Fine) × (t ≡ Fine)
+then-fine Fine t e = (refl, e)
+then-fine (Fault n at) t e = absurd (not-fine {n = n} {a = at} refl e)
+
+pub found-parts : (p : Plan) (k : ℕ) (s : Spot) (r : List ℕ) → foundIn p k s r ≡ Fine
+    → (headerOf (k + 1) (codesOf image (s .run)) (s .length) r ≡ Fine) × (bodyOf image (s .run) p k r ≡ Fine)
+unfolding foundIn
+found-parts p k s r e = then-fine (headerOf (k + 1) (codesOf image (s .run)) (s .length) r) (bodyOf image (s .run) p k r) e
+
+pub parts-found : (p : Plan) (k : ℕ) (s : Spot) (r : List ℕ) → headerOf (k + 1) (codesOf image (s .run)) (s .length) r ≡ Fine → bodyOf image (s .run) p k r ≡ Fine
+    → foundIn p k s r ≡ Fine
+unfolding foundIn
+parts-found p k s r a b = ap (λ (v : Verdict). andThen v (bodyOf image (s .run) p k r)) a ∙ b
+
+-- a line's body is its three tests
+pub line-body : (p : Plan) (k : ℕ) (r : List ℕ) → bodyOf image 1 p k r ≡ firstFault (lineTests (p .w) k r)
+unfolding bodyOf bodyTests imageRecord
+line-body p k r = refl
+
+line-fills : (p : Plan) (k : ℕ) (r : List ℕ) → bodyOf image 1 p k r ≡ Fine → leftOf r + dataOf r + fourAt r (placeOf 29) ≡ p .w
+unfolding lineTests
+line-fills p k r e = eqb-true _ _ (fine-holds (lineTests (p .w) k r) (sym (line-body p k r) ∙ e) .1 .1 .0)
+
+-- of a line that is shown: its data pixels end within the bytes held
+seen-within : (p : Plan) (k : ℕ) (bs : List ℕ) (start count left : ℕ) → Lined p → Seen p k (spotOf image p k) bs start count left → start + group * count ≤ length bs
+seen-within p zero bs start count left o q = absurd (let h = within-true 1 0 (p .n) (q .inside) in omega arith)
+seen-within p (suc k) bs start count left o q =
+    let h = within-true 1 (suc k) (p .n) (q .inside) in
+    let e = line-spot p k (omega arith) in
+    go (spotOf image p (suc k)) e q
+  where
+    go : (s : Spot) → s ≡ record { run = 1; length = p .l; start = 720 + k * p .l } → Seen p (suc k) s bs start count left → start + group * count ≤ length bs
+    go s e q =
+        let h = within-true 1 (suc k) (p .n) (q .inside) in
+        let r = recordAt s bs in
+        let b : bodyOf image 1 p (suc k) r ≡ Fine = subst (λ (i : ℕ). bodyOf image i p (suc k) r ≡ Fine) (ap (λ (x : Spot). x .run) e) (found-parts p (suc k) s r (q .fine) .1) in
+        let l : s .length ≡ p .l = ap (λ (x : Spot). x .length) e in
+        let c : group * count ≡ group * dataOf r = ap (λ (n : ℕ). group * n) (q .counts) in
+        omega (arith, data-fits group p (leftOf r) (dataOf r) (fourAt r (placeOf 29)) (o .paired (omega arith)) (o .room (omega arith)) (line-fills p (suc k) r b), q .whole, q .starts)
+
+pub shown-within : (bs : List ℕ) (k start count left : ℕ) → viewOf bs k ≡ Shown start count left → start + group * count ≤ length bs
+shown-within bs k start count left e =
+    seen-within (firstOf bs .state .plan) k bs start count left (lined bs)
+    (line-seen (firstOf bs .state .plan) k bs start count left (view-line bs k start count left e))

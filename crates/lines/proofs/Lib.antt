@@ -1,0 +1,4 @@
+pub mod LinedLaws
+pub mod ViewLaws
+pub mod InsideLaws
+pub mod RowLaws

@@ -1,0 +1,189 @@
+-- The line view one test at a time, and back: where a line is shown, each of its tests has held, and its data pixels lie inside its record.
+use Prim.Native.Nat.{ℕ, _+_, _-_, _*_, _≤_, _<_}
+use mathlib.Core.Path.{_≡_, refl, sym, ap, _∙_}
+use mathlib.Core.List.{List, [], _∷_}
+use mathlib.Core.Logic.{⊎-elim}
+use mathlib.Core.Bool.{Bool, true, false}
+use native.Mathlib.Omega.{arith}
+use lib.Dec.{ltb}
+use lib.ListN.{length, take, drop}
+use types.Run.{OneOf}
+use denote.Enum.Declared.{tagOf}
+use borrow.Author.Tests.{lt-ltb, le-ltb, ltb-false}
+use Rattle.words.specs.Tests.{pick, withinOf}
+use Rattle.words.specs.declared.Refusal.{Refusal}
+use Rattle.plan.specs.Plan.{image, group, spotOf, codesOf}
+use Rattle.plan.specs.declared.Plan.{Plan}
+use Rattle.plan.specs.declared.Spot.{Spot}
+use Rattle.bodies.specs.Tests.{andThen}
+use Rattle.bodies.specs.Bodies.{bodyOf}
+use Rattle.bodies.specs.declared.Verdict.{Verdict}
+use Rattle.bodies.specs.declared.Verdict.the-variants.{Fine, Fault}
+use Rattle.walk.specs.Turn.{Near, headerOf, walkOf, beginOf}
+use Rattle.walk.specs.declared.Begun.{Begun}
+use Rattle.walk.specs.declared.Walked.{Walked}
+use Rattle.walk.specs.declared.Stop.{Stop}
+use Rattle.walk.specs.declared.Stop.the-variants.{Wait as Wait′, Pause, Complete, Refused as Refused′}
+use Rattle.walk.proofs.Stop.{the-type}
+use Rattle.walk.proofs.NearLaws.{header-near, body-near}
+use Rattle.lines.specs.View.{leftOf, dataOf, pixelsFrom, shownOf, onVerdict, bareRefusal, foundIn, recordAt, lineAt, lineOf, behindFirst, firstOf, viewOf, shownBytes, pixelsOf}
+use Rattle.lines.proofs.View.{the-type as view-type}
+use Rattle.lines.specs.declared.View.{View}
+use Rattle.lines.specs.declared.View.the-variants.{Shown, Wait, Refused}
+
+-- ---- what is found in a line's record
+
+pub then-fault : (h t : Verdict) → (h ≡ Fine → ⊥) → andThen h t ≡ h
+then-fault Fine t n = absurd (n refl)
+then-fault (Fault m a) t n = refl
+
+near-then : (h t : Verdict) → Near h → Near t → Near (andThen h t)
+near-then Fine t a b = b
+near-then (Fault m at) t a b = a
+
+pub found-near : (p : Plan) (k : ℕ) (s : Spot) (r : List ℕ) → Near (foundIn p k s r)
+unfolding foundIn
+found-near p k s r =
+    near-then (headerOf (k + 1) (codesOf image (s .run)) (s .length) r) (bodyOf image (s .run) p k r) (header-near (k + 1) (codesOf image (s .run)) (s .length) r)
+    (body-near image (s .run) p k r)
+
+-- ---- the line at a spot
+
+-- what the code hands on as `&bytes[from..to]`
+pub part-is : (from long : ℕ) (bs : List ℕ) → take (from + long - from) (drop from bs) ≡ take long (drop from bs)
+part-is from long bs = ap (λ (n : ℕ). take n (drop from bs)) (let e : from + long - from ≡ long = omega arith in e)
+
+module _ (p : Plan) (k : ℕ) (s : Spot) (bs : List ℕ) where
+  pub at-short : length bs < s .start + s .length → lineAt p k s bs ≡ Wait (s .start + s .length - length bs)
+  unfolding lineAt
+  at-short h = simp (lt-ltb _ _ h)
+
+  pub at-whole : s .start + s .length ≤ length bs
+      → lineAt p k s bs ≡ onVerdict (foundIn p k s (recordAt s bs)) (k + 1) (s .start) (shownOf group p (s .start) (recordAt s bs))
+  unfolding lineAt
+  at-whole h = simp (le-ltb _ _ h)
+
+-- ---- the line under a plan
+
+module _ (p : Plan) (k : ℕ) (bs : List ℕ) where
+  pub line-in : withinOf 1 k (p .n) ≡ true → lineOf p k bs ≡ lineAt p k (spotOf image p k) bs
+  unfolding lineOf
+  line-in e = simp e
+
+  pub line-out : withinOf 1 k (p .n) ≡ false → lineOf p k bs ≡ Refused (bareRefusal 13)
+  unfolding lineOf
+  line-out e = simp e
+
+-- the first record's stop, by what it is not
+not-stopped : (x : Stop) (v : View) → OneOf (1 ∷ 2 ∷ 3 ∷ []) (tagOf the-type x) → OneOf (0 ∷ 1 ∷ 2 ∷ []) (tagOf the-type x) → behindFirst x v ≡ v
+not-stopped (Wait′ n) v a b = absurd (⊎-elim (λ e. omega arith) (⊎-elim (λ e. omega arith) (λ e. omega arith)) a)
+not-stopped Pause v a b = refl
+not-stopped Complete v a b = refl
+not-stopped (Refused′ r) v a b = absurd (⊎-elim (λ e. omega arith) (⊎-elim (λ e. omega arith) (λ e. omega arith)) b)
+
+-- the first record's walk, as the code has it, and the view by its stop
+module _ (bs : List ℕ) (k : ℕ) (b : Begun) (w : Walked) (begins : b ≡ beginOf image) (walks : w ≡ walkOf 1 (b .state) bs false) where
+  pub first-is : w ≡ firstOf bs
+  unfolding beginOf
+  first-is = walks ∙ ap (λ (x : Begun). walkOf 1 (x .state) bs false) begins
+
+  view-is : viewOf bs k ≡ behindFirst (w .stop) (lineOf (w .state .plan) k bs)
+  unfolding viewOf
+  view-is = ap (λ (x : Walked). behindFirst (x .stop) (lineOf (x .state .plan) k bs)) (sym first-is)
+
+  pub view-wait : (n : ℕ) → w .stop ≡ Wait′ n → Wait n ≡ viewOf bs k
+  view-wait n e = sym (view-is ∙ ap (λ (x : Stop). behindFirst x (lineOf (w .state .plan) k bs)) e)
+
+  pub view-refused : (r : Refusal) → w .stop ≡ Refused′ r → Refused r ≡ viewOf bs k
+  view-refused r e = sym (view-is ∙ ap (λ (x : Stop). behindFirst x (lineOf (w .state .plan) k bs)) e)
+
+  pub view-behind : OneOf (1 ∷ 2 ∷ 3 ∷ []) (tagOf the-type (w .stop)) → OneOf (0 ∷ 1 ∷ 2 ∷ []) (tagOf the-type (w .stop)) → (v : View)
+      → v ≡ lineOf (w .state .plan) k bs → v ≡ viewOf bs k
+  view-behind a c v e = e ∙ sym (view-is ∙ not-stopped (w .stop) (lineOf (w .state .plan) k bs) a c)
+
+-- ---- and back: a line that is shown
+
+-- each test of a line that is shown
+pub record Seen (p : Plan) (k : ℕ) (s : Spot) (bs : List ℕ) (start count left : ℕ) : Type 0 where
+  pub inside : withinOf 1 k (p .n) ≡ true
+  pub whole : s .start + s .length ≤ length bs
+  pub fine : foundIn p k s (recordAt s bs) ≡ Fine
+  pub starts : start ≡ s .start + pixelsFrom p + group * leftOf (recordAt s bs)
+  pub counts : count ≡ dataOf (recordAt s bs)
+  pub lefts : left ≡ leftOf (recordAt s bs)
+
+pub wait≢shown : (n a b c : ℕ) → _≡_ {A = View} (Wait n) (Shown a b c) → ⊥
+wait≢shown n a b c e = let z : _≡_ {A = ℕ} 0 1 = cc in omega arith
+
+pub refused≢shown : (r : Refusal) (a b c : ℕ) → _≡_ {A = View} (Refused r) (Shown a b c) → ⊥
+refused≢shown r a b c e = let z : _≡_ {A = ℕ} 0 1 = cc in omega arith
+
+place : View → ℕ
+place (Shown a b c) = a
+place (Wait n) = 0
+place (Refused r) = 0
+
+number : View → ℕ
+number (Shown a b c) = b
+number (Wait n) = 0
+number (Refused r) = 0
+
+fill : View → ℕ
+fill (Shown a b c) = c
+fill (Wait n) = 0
+fill (Refused r) = 0
+
+module _ (p : Plan) (k : ℕ) (bs : List ℕ) (start count left : ℕ) where
+  pub line-seen : lineOf p k bs ≡ Shown start count left → Seen p k (spotOf image p k) bs start count left
+  unfolding lineOf lineAt shownOf place number fill
+  line-seen e = go (withinOf 1 k (p .n)) refl (ltb (length bs) (spotOf image p k .start + spotOf image p k .length)) refl (foundIn p k (spotOf image p k) (recordAt (spotOf image p k) bs)) refl e
+    where
+      go : (a : Bool) → withinOf 1 k (p .n) ≡ a → (b : Bool) → ltb (length bs) (spotOf image p k .start + spotOf image p k .length) ≡ b
+          → (v : Verdict) → foundIn p k (spotOf image p k) (recordAt (spotOf image p k) bs) ≡ v
+          → pick a
+          (pick b (Wait (spotOf image p k .start + spotOf image p k .length - length bs))
+          (onVerdict v (k + 1) (spotOf image p k .start) (shownOf group p (spotOf image p k .start) (recordAt (spotOf image p k) bs))))
+          (Refused (bareRefusal 13)) ≡ Shown start count left
+          → Seen p k (spotOf image p k) bs start count left
+      go false ea b eb v ev e = absurd (refused≢shown _ _ _ _ e)
+      go true ea true eb v ev e = absurd (wait≢shown _ _ _ _ e)
+      go true ea false eb (Fault n at) ev e = absurd (refused≢shown _ _ _ _ e)
+      go true ea false eb Fine ev e =
+          record { inside = ea; whole = ltb-false _ _ eb; fine = ev; starts = sym (ap place e); counts = sym (ap number e); lefts = sym (ap fill e) }
+
+  pub seen-line : Seen p k (spotOf image p k) bs start count left → lineOf p k bs ≡ Shown start count left
+  unfolding shownOf
+  seen-line q =
+      line-in p k bs (q .inside) ∙ at-whole p k (spotOf image p k) bs (q .whole)
+      ∙ ap (λ (v : Verdict). onVerdict v (k + 1) (spotOf image p k .start) (shownOf group p (spotOf image p k .start) (recordAt (spotOf image p k) bs))) (q .fine)
+      ∙ rw (q .starts, q .counts, q .lefts)
+
+-- a view that shows a line shows it under the first record's plan
+pub view-line : (bs : List ℕ) (k start count left : ℕ) → viewOf bs k ≡ Shown start count left → lineOf (firstOf bs .state .plan) k bs ≡ Shown start count left
+unfolding viewOf
+view-line bs k start count left e = go (firstOf bs .stop) e
+  where
+    go : (x : Stop) → behindFirst x (lineOf (firstOf bs .state .plan) k bs) ≡ Shown start count left → lineOf (firstOf bs .state .plan) k bs ≡ Shown start count left
+    go (Wait′ n) e = absurd (wait≢shown _ _ _ _ e)
+    go Pause e = e
+    go Complete e = e
+    go (Refused′ r) e = absurd (refused≢shown _ _ _ _ e)
+
+-- ---- the pixels handed back, by the view
+
+module _ (bs : List ℕ) (k : ℕ) (v : View) (sees : v ≡ viewOf bs k) where
+  pixels-are : pixelsOf bs k ≡ shownBytes group v bs
+  unfolding pixelsOf
+  pixels-are = ap (λ (x : View). shownBytes group x bs) (sym sees)
+
+  pub pixels-none : OneOf (1 ∷ 2 ∷ []) (tagOf view-type v) → _≡_ {A = List ℕ} [] (pixelsOf bs k)
+  pixels-none o = sym (pixels-are ∙ none v o)
+    where
+      none : (x : View) → OneOf (1 ∷ 2 ∷ []) (tagOf view-type x) → shownBytes group x bs ≡ []
+      none (Shown a b c) o = absurd (⊎-elim (λ e. omega arith) (λ e. omega arith) o)
+      none (Wait n) o = refl
+      none (Refused r) o = refl
+
+  pub pixels-shown : (start count left : ℕ) → v ≡ Shown start count left → take (start + group * count - start) (drop start bs) ≡ pixelsOf bs k
+  pixels-shown start count left e =
+      part-is start (group * count) bs ∙ sym (pixels-are ∙ ap (λ (x : View). shownBytes group x bs) e)

@@ -1,0 +1,99 @@
+-- The line view of an image prefix held from byte 0 (document 01, "Lines, rows, sets"), in that page's order. Bytes a pixel are a parameter
+-- `g` of what is shown: `group` today. Assumes nothing.
+use Prim.Native.Nat.{ℕ, _+_, _-_, _*_, _≤_}
+use mathlib.Core.Path.{_≡_}
+use mathlib.Core.List.{List, []}
+use mathlib.Core.Bool.{false}
+use lib.Dec.{ltb}
+use lib.ListN.{length, take, drop}
+use Rattle.words.specs.Tests.{pick, withinOf}
+use Rattle.words.specs.Words.{fourAt, placeOf}
+use Rattle.words.specs.declared.Refusal.{Refusal}
+use Rattle.plan.specs.Plan.{image, group, ahead, spotOf, codesOf, runCounts, runLengths, Small}
+use Rattle.plan.specs.declared.Plan.{Plan}
+use Rattle.plan.specs.declared.Spot.{Spot}
+use Rattle.bodies.specs.Tests.{andThen}
+use Rattle.bodies.specs.Bodies.{bodyOf}
+use Rattle.bodies.specs.declared.Verdict.{Verdict}
+use Rattle.bodies.specs.declared.Verdict.the-variants.{Fine, Fault}
+use Rattle.walk.specs.Rule.{fresh}
+use Rattle.walk.specs.Turn.{headerOf, walkOf}
+use Rattle.walk.specs.declared.Stop.{Stop}
+use Rattle.walk.specs.declared.Stop.the-variants.{Wait as Wait′, Pause, Complete, Refused as Refused′}
+use Rattle.walk.specs.declared.Walked.{Walked}
+use Rattle.lines.specs.declared.View.{View}
+use Rattle.lines.specs.declared.View.the-variants.{Shown, Wait, Refused}
+
+-- a line's left fill and data count, as its record says them
+abbrev pub leftOf : List ℕ → ℕ
+leftOf r = fourAt r (placeOf 21)
+
+abbrev pub dataOf : List ℕ → ℕ
+dataOf r = fourAt r (placeOf 25)
+
+-- pixels start L − s − d bytes into the record
+abbrev pub pixelsFrom : Plan → ℕ
+pixelsFrom p = p .l - p .s - p .d
+
+-- the data pixels skip the left fill, of g bytes a pixel; also where there are none
+unfoldable pub shownOf : ℕ → Plan → ℕ → List ℕ → View
+shownOf g p start r = Shown (start + pixelsFrom p + g * leftOf r) (dataOf r) (leftOf r)
+
+-- a fault is the refusal of that record; where there is none, what is shown
+abbrev pub onVerdict : Verdict → ℕ → ℕ → View → View
+onVerdict Fine ordinal start v = v
+onVerdict (Fault n at) ordinal start v = Refused (record { number = n; «record» = ordinal; place = start + at })
+
+-- a refusal that names no record
+abbrev pub bareRefusal : ℕ → Refusal
+bareRefusal n = record { number = n; «record» = 0; place = 0 }
+
+-- header (3, 4, 5), then body (10), of the record at that spot
+unfoldable pub foundIn : Plan → ℕ → Spot → List ℕ → Verdict
+foundIn p k s r = andThen (headerOf (k + 1) (codesOf image (s .run)) (s .length) r) (bodyOf image (s .run) p k r)
+
+-- the bytes of the record at a spot
+abbrev pub recordAt : Spot → List ℕ → List ℕ
+recordAt s bs = take (s .length) (drop (s .start) bs)
+
+-- line k, which stands at that spot: wait for the bytes still missing to its record's end; then 3, 4, 5, 10
+unfoldable pub lineAt : Plan → ℕ → Spot → List ℕ → View
+lineAt p k s bs =
+    pick (ltb (length bs) (s .start + s .length)) (Wait (s .start + s .length - length bs))
+    (onVerdict (foundIn p k s (recordAt s bs)) (k + 1) (s .start) (shownOf group p (s .start) (recordAt s bs)))
+
+-- 13; then the line
+unfoldable pub lineOf : Plan → ℕ → List ℕ → View
+lineOf p k bs = pick (withinOf 1 k (p .n)) (lineAt p k (spotOf image p k) bs) (Refused (bareRefusal 13))
+
+-- the first record's own wait or refusal; where it has passed, what follows
+abbrev pub behindFirst : Stop → View → View
+behindFirst (Wait′ n) v = Wait n
+behindFirst Pause v = v
+behindFirst Complete v = v
+behindFirst (Refused′ r) v = Refused r
+
+-- the first record as in the walk, open
+abbrev pub firstOf : List ℕ → Walked
+firstOf bs = walkOf 1 (fresh image) bs false
+
+-- the line view: the first record, then the line under the plan that it names
+unfoldable pub viewOf : List ℕ → ℕ → View
+viewOf bs k = behindFirst (firstOf bs .stop) (lineOf (firstOf bs .state .plan) k bs)
+
+-- the data pixels that a view shows of the bytes; none where nothing is shown
+abbrev pub shownBytes : ℕ → View → List ℕ → List ℕ
+shownBytes g (Shown start count left) bs = take (g * count) (drop start bs)
+shownBytes g (Wait n) bs = []
+shownBytes g (Refused r) bs = []
+
+unfoldable pub pixelsOf : List ℕ → ℕ → List ℕ
+pixelsOf bs k = shownBytes group (viewOf bs k) bs
+
+-- a plan whose lines can be placed: what a good state gives, so that nothing wraps
+pub record Lined (p : Plan) : Type 0 where
+  pub small : Small (runCounts image p) (runLengths image p)
+  pub lines : p .n ≤ 999999
+  pub long : p .l ≤ 99999999
+  pub room : 1 ≤ p .n → ahead + p .d + p .s ≤ p .l
+  pub paired : 1 ≤ p .n → p .d ≡ group * p .w

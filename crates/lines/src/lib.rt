@@ -1,0 +1,179 @@
+// What the page shows of an image that is held from byte 0 (document 01, "Lines, rows, sets"): the data
+// pixels of one line as a part of the caller's bytes, and their copy as 16-bit numbers. Earlier lines
+// are not read: a line's place follows from the plan.
+use bodies::Verdict;
+use plan::Plan;
+use plan::Spot;
+use walk::State;
+use walk::Stop;
+use words::Refusal;
+ghost use mathlib.Core.Path.{_≡_};
+ghost use mathlib.Core.List.{_++_};
+ghost use Prim.Native.Nat.{_+_, _*_, _≤_};
+ghost use lib.ListN.{length, drop};
+ghost use Rattle.plan.specs.Plan.{image, group, Spotted};
+ghost use Rattle.lines.specs.View.{pixelsFrom, shownOf, foundIn, lineAt, lineOf, viewOf, pixelsOf, bareRefusal, Lined};
+ghost use Rattle.lines.specs.Row.{samples, copiedOf, rowOf};
+
+// What a line view answers: the place of its first data pixel in the file, the data count and the
+// left fill; or the bytes still missing; or why it is refused.
+pub enum View {
+    Shown(u64, u64, u64),
+    Wait(u64),
+    Refused(Refusal),
+}
+
+// What the row copy answers: how many samples were copied; or a wait or a refusal, and nothing was.
+pub enum Copied {
+    Done(u64),
+    Wait(u64),
+    Refused(Refusal),
+}
+
+// A refusal that names no record.
+fn unplaced(number: u64) -> Refusal
+    ensures { λ r. ⌜ r ≡ bareRefusal number ⌝ }
+{
+    Refusal {
+        number,
+        record: 0,
+        place: 0,
+    }
+}
+
+// What is found in line k's record, which stands at that spot: header (3, 4, 5), then body (10).
+fn found(p: Plan, k: u64, s: Spot, r: &[u8]) -> Verdict
+    requires { ⌜ k ≤ 999999 ⌝ }
+    ensures { λ v. ⌜ v ≡ foundIn p k s (now (r .entry)) ⌝ }
+{
+    let h = walk::header(k + 1, plan::codes_of(plan::IMAGE, s.run), s.length, r);
+    let Verdict::Fine = h else {
+        return h;
+    };
+    bodies::judge(plan::IMAGE, s.run, p, k, r)
+}
+
+// Pixels start L - s - d bytes into a line's record, which may be more than the 192 of its front.
+fn pixels_from(p: Plan) -> u64
+    requires { ⌜ p .s + p .d ≤ p .l ⌝ }
+    ensures { λ r. ⌜ (r ≡ pixelsFrom p) × (r ≤ p .l) ⌝ }
+{
+    p.l - p.s - p.d
+}
+
+// What is shown of a line's record that starts there: the data pixels skip the left fill.
+fn shown(p: Plan, start: u64, r: &[u8]) -> View
+    requires { ⌜ (start ≤ 20000000000000) × (p .s + p .d ≤ p .l) × (p .l ≤ 99999999) ⌝ }
+    ensures { λ v. ⌜ v ≡ shownOf group p start (now (r .entry)) ⌝ }
+{
+    let left = words::four(r, words::place(21));
+    let data = words::four(r, words::place(25));
+    let from = start + pixels_from(p) + plan::GROUP * left;
+    View::Shown(from, data, left)
+}
+
+// Line k, which stands at that spot: wait for the bytes still missing to its record's end, then judge
+// that record alone.
+fn line_at(p: Plan, k: u64, s: Spot, bytes: &[u8]) -> View
+    requires { ⌜ Lined p × Spotted s × (k ≤ 999999) × (p .s + p .d ≤ p .l) ⌝ }
+    ensures { λ v. ⌜ v ≡ lineAt p k s (now (bytes .entry)) ⌝ }
+{
+    let end = s.start + s.length;
+    let len = bytes.len() as u64;
+    if len < end {
+        return View::Wait(end - len);
+    }
+    let from = s.start as usize;
+    let to = end as usize;
+    let r = &bytes[from..to];
+    let v = found(p, k, s, r);
+    if let Verdict::Fault(number, at) = v {
+        return View::Refused(Refusal {
+            number,
+            record: k + 1,
+            place: s.start + at,
+        });
+    }
+    shown(p, s.start, r)
+}
+
+// Line k of an image with that plan, or 13.
+fn line(p: Plan, k: u64, bytes: &[u8]) -> View
+    requires { ⌜ Lined p ⌝ }
+    ensures { λ v. ⌜ v ≡ lineOf p k (now (bytes .entry)) ⌝ }
+{
+    if words::within(1, k, p.n) {
+        return line_at(p, k, plan::spot_of(plan::IMAGE, p, k), bytes);
+    }
+    View::Refused(unplaced(13))
+}
+
+// The line view, asked of an image prefix held from byte 0: the first record as in the walk, open;
+// then line k. Asking for the last line costs no more than asking for the first.
+pub fn line_view(bytes: &[u8], k: u64) -> View
+    ensures { λ v. ⌜ v ≡ viewOf (now (bytes .entry)) k ⌝ }
+{
+    let begun = State::none().begin(plan::IMAGE);
+    let fresh = begun.state;
+    let first = fresh.step(bytes, false);
+    let stop = first.stop;
+    if let Stop::Wait(n) = stop {
+        return View::Wait(n);
+    }
+    if let Stop::Refused(r) = stop {
+        return View::Refused(r);
+    }
+    let st = first.state;
+    let p = st.plan;
+    line(p, k, bytes)
+}
+
+// The line's data pixels, as the part of the caller's bytes that they are; empty where nothing is
+// shown.
+pub fn pixels(bytes: &[u8], k: u64) -> &[u8]
+    ensures { λ r. ⌜ now r ≡ pixelsOf (now (bytes .entry)) k ⌝ }
+{
+    let v = line_view(bytes, k);
+    let View::Shown(start, count, _) = v else {
+        return &bytes[0..0];
+    };
+    let from = start as usize;
+    let to = (start + plan::GROUP * count) as usize;
+    &bytes[from..to]
+}
+
+// That many samples of two bytes, high byte first, to the row's start; later samples stay.
+fn write(px: &[u8], count: usize, row: &mut [u16])
+    requires { ⌜ (group * count ≤ length (now px)) × (count ≤ length (now row)) ⌝ }
+    ensures { λ _. ⌜ now (row .exit) ≡ samples count (now (px .entry)) ++ drop count (now (row .entry)) ⌝ }
+{
+    let mut j = 0;
+    while j < count {
+        let high = px[2 * j];
+        let low = px[2 * j + 1];
+        row[j] = high as u16 * 256 + low as u16;
+        j += 1;
+    }
+}
+
+// The row copy: the line's data pixels as 16-bit numbers to the start of the lent row. 15 comes last;
+// on a wait or a refusal every sample stays.
+pub fn row_copy(bytes: &[u8], k: u64, row: &mut [u16]) -> Copied
+    ensures { λ r. ⌜ r ≡ copiedOf (now (bytes .entry)) k (length (now (row .entry))) ⌝ }
+    ensures { λ r. ⌜ now (row .exit) ≡ rowOf (now (bytes .entry)) k (now (row .entry)) ⌝ }
+{
+    let v = line_view(bytes, k);
+    match v {
+        View::Wait(n) => Copied::Wait(n),
+        View::Refused(r) => Copied::Refused(r),
+        View::Shown(start, count, _) => {
+            if (row.len() as u64) < count {
+                return Copied::Refused(unplaced(15));
+            }
+            let from = start as usize;
+            let to = (start + plan::GROUP * count) as usize;
+            write(&bytes[from..to], count as usize, row);
+            Copied::Done(count)
+        }
+    }
+}
