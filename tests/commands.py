@@ -1,4 +1,4 @@
-"""Commands and files for the makers of examples, walk.py and lines.py.
+"""Commands and files for the makers of examples, walk.py, lines.py and listing.py.
 
 The programs that run examples hold a buffer of 65,536 bytes. A maker writes commands that build files in it
 and ask, and keeps the same bytes here, so that the answers are the oracle's of the very bytes that the
@@ -187,17 +187,22 @@ def draw(below: int) -> int:
 # What is stored ----------------------------------------------------------------------------------------
 
 
-def store(home: Path) -> int:
-    """Writes the program's stdin and stdout; with --check it says whether they are as stored."""
+def keep(home: Path, made: dict[str, bytes], what: str) -> int:
+    """Writes a program's files; with --check it says whether they are as stored."""
     maker = Path(sys.argv[0]).name
-    made = {'stdin': b'\n'.join(commands) + b'\n', 'stdout': b'\n'.join(answers) + b'\n'}
-    assert len(made['stdin']) <= MOST_INPUT, f"{len(made['stdin'])} bytes of input, the program reads {MOST_INPUT}"
     if '--check' in sys.argv[1:]:
         stale = [name for name, data in made.items() if not (home / name).exists() or (home / name).read_bytes() != data]
-        print(f"tests/{maker}: {len(answers)} answers, {'as stored' if not stale else 'not as stored: ' + ' '.join(stale)}")
+        print(f"tests/{maker}: {what}, {'as stored' if not stale else 'not as stored: ' + ' '.join(stale)}")
         return 1 if stale else 0
     home.mkdir(parents=True, exist_ok=True)
     for name, data in made.items():
         (home / name).write_bytes(data)
-    print(f"tests/{maker}: wrote {len(answers)} answers, {len(made['stdin'])} bytes of input")
+    print(f"tests/{maker}: wrote {what}, {len(made['stdin'])} bytes of input")
     return 0
+
+
+def store(home: Path) -> int:
+    """The commands and the answers, as a program's stdin and stdout."""
+    made = {'stdin': b'\n'.join(commands) + b'\n', 'stdout': b'\n'.join(answers) + b'\n'}
+    assert len(made['stdin']) <= MOST_INPUT, f"{len(made['stdin'])} bytes of input, the program reads {MOST_INPUT}"
+    return keep(home, made, f'{len(answers)} answers')

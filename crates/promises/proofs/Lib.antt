@@ -43,3 +43,4 @@ pub mod RowNamed
 pub mod AcceptedLines
 pub mod SetAgrees
 pub mod BitesRows
+pub mod ListingIs

@@ -88,13 +88,13 @@ module _ (Q : Stop → Type 0) (st : State) (b : List ℕ) (c : Bool) (x : Stop)
 pub wait≢pause : {n : ℕ} → Wait n ≡ Pause → ⊥
 wait≢pause e = let z : _≡_ {A = ℕ} 0 1 = cc in omega arith
 
-wait≢complete : {n : ℕ} → Wait n ≡ Complete → ⊥
+pub wait≢complete : {n : ℕ} → Wait n ≡ Complete → ⊥
 wait≢complete e = let z : _≡_ {A = ℕ} 0 1 = cc in omega arith
 
 pub wait≢refused : {n : ℕ} {x : Refusal} → Wait n ≡ Refused x → ⊥
 wait≢refused e = let z : _≡_ {A = ℕ} 0 1 = cc in omega arith
 
-complete≢pause : Complete ≡ Pause → ⊥
+pub complete≢pause : Complete ≡ Pause → ⊥
 complete≢pause e = let z : _≡_ {A = ℕ} 0 1 = cc in omega arith
 
 pub complete≢refused : {x : Refusal} → Complete ≡ Refused x → ⊥

@@ -7,3 +7,4 @@ pub mod Arriving
 pub mod Demands
 pub mod Witness
 pub mod Shown
+pub mod Listing

@@ -1,0 +1,295 @@
+-- In whatever pieces its input comes, the listing's last row is the whole closed walk's answer, unless its lines are too long to be held: by induction over its turns.
+use Prim.Native.Nat.{ℕ, zero, suc, _+_, _-_, _≤_, _<_}
+use mathlib.Core.Path.{_≡_, refl, sym, ap, _∙_, subst}
+use mathlib.Core.Bool.{Bool, true, false, false≢true}
+use mathlib.Core.Logic.{_≢_, _⊎_, inl, inr, ⊎-elim}
+use mathlib.Core.List.{List, [], _++_, append-assoc, append-nil}
+use native.Mathlib.Omega.{arith}
+use lib.Dec.{eqb, ltb, leb}
+use lib.ListN.{length, take, drop, length-append, drop-of-length-le}
+use borrow.Author.Tests.{eqb-false, leb-true, leb-false, ltb-true, ne-eqb}
+use Rattle.words.specs.Tests.{pick}
+use Rattle.words.proofs.Laws.{cases}
+use Rattle.plan.specs.Plan.{image as image′, firstLength, totalOf, sumOf, runCounts, spotOf, codesOf}
+use Rattle.plan.specs.declared.Plan.{Plan}
+use Rattle.plan.specs.declared.Spot.{Spot}
+use Rattle.bodies.specs.Bodies.{bodyOf}
+use Rattle.bodies.specs.declared.Verdict.{Verdict}
+use Rattle.bodies.specs.declared.Verdict.the-variants.{Fine, Fault}
+use Rattle.walk.specs.Rule.{fresh, goodState, nextSpot}
+use Rattle.walk.specs.Turn.{refusedAt, endedOf, shortOf, onFine, headerOf, judgeOf, turnOf, nextOf, walkOf, more}
+use Rattle.walk.specs.declared.State.{State}
+use Rattle.walk.specs.declared.Stop.{Stop}
+use Rattle.walk.specs.declared.Stop.the-variants.{Wait, Pause, Complete as Complete′, Refused as Refused′}
+use Rattle.walk.specs.declared.Turn.{Turn}
+use Rattle.walk.specs.declared.Turn.the-variants.{Pass, Halt}
+use Rattle.walk.specs.declared.Walked.{Walked}
+use Rattle.walk.proofs.LoopLaws.{walk-pause, walk-halt, walk-pass}
+use Rattle.walk.proofs.TurnLaws.{pass-going, good-next}
+use Rattle.lines.proofs.LinedLaws.{lined-good}
+use Rattle.lines.proofs.InsideLaws.{line-spot}
+use Rattle.listing.specs.Rows.{longest, wanted, sayOf, tooLong, toldBy, toldOf}
+use Rattle.listing.specs.declared.Row.{Row}
+use Rattle.listing.specs.declared.Row.the-variants.{TooLong}
+use Rattle.listing.specs.declared.Say.the-variants.{Want, Next, Last}
+use Rattle.listing.specs.declared.Told.{Told}
+use Rattle.promises.specs.Listing.{Lists, piece, ended, next, last, closingBy, closingRow}
+use Rattle.promises.specs.Rules.{image}
+use Rattle.promises.proofs.Accepts.{good-fresh}
+use Rattle.promises.proofs.Counted.{open-never-complete}
+use Rattle.promises.proofs.FirstPasses.{one-turn}
+use Rattle.promises.proofs.PlanNamed.{plan-kept}
+use Rattle.promises.proofs.Stays.{refusal-stays, budget-stays}
+use Rattle.promises.proofs.Turns.{turn-room, turn-pass-stays, next-stays, rest-stays, never-pause, refused≢pause, wait≢pause, wait≢refused, complete≢pause, wait≢complete}
+
+-- ---- how long the next record is
+
+image-total : (p : Plan) → totalOf image′ p ≡ suc (p .n)
+unfolding totalOf sumOf runCounts
+image-total p = omega arith
+
+-- a record that is due has twelve bytes at least
+due-least : (st : State) → goodState st ≡ true → st .kind ≡ image′ → st .passed < totalOf image′ (st .plan) → 12 ≤ spotOf image′ (st .plan) (st .passed) .length
+unfolding spotOf firstLength
+due-least st g k h = go (st .passed) h
+  where
+    go : (i : ℕ) → i < totalOf image′ (st .plan) → 12 ≤ spotOf image′ (st .plan) i .length
+    go zero h = omega arith
+    go (suc i) h =
+        let t = image-total (st .plan) in
+        let l = lined-good st g k in
+        let e : spotOf image′ (st .plan) (suc i) .length ≡ st .plan .l = ap (λ (s : Spot). s .length) (line-spot (st .plan) i (omega arith)) in
+        let r = l .room (omega arith) in
+        omega arith
+
+-- ---- an open turn that waits
+
+-- behind the last record, or for the rest of the header, or for the rest of the record
+pub data Waiting (st : State) (held : List ℕ) (n : ℕ) : Type 0 where
+  behind : totalOf (st .kind) (st .plan) ≤ st .passed → Waiting st held n
+  header-rest : st .passed < totalOf (st .kind) (st .plan) → length held + n ≡ 12 → 1 ≤ n → Waiting st held n
+  record-rest : st .passed < totalOf (st .kind) (st .plan) → length held + n ≡ nextSpot st .length → 1 ≤ n → Waiting st held n
+
+halted : {x y : Stop} → Halt x ≡ Halt y → x ≡ y
+halted e = cc
+
+waited : {m n : ℕ} → Wait m ≡ Wait n → m ≡ n
+waited e = cc
+
+refused≢wait : (o a m t n : ℕ) → Halt (refusedAt o a m t) ≡ Halt (Wait n) → ⊥
+refused≢wait o a m t n e = let z : _≡_ {A = ℕ} 0 1 = cc in omega arith
+
+pass≢wait : (n : ℕ) → Pass ≡ Halt (Wait n) → ⊥
+pass≢wait n e = let z : _≡_ {A = ℕ} 0 1 = cc in omega arith
+
+waits : (st : State) (held : List ℕ) (n : ℕ) → turnOf st held false ≡ Halt (Wait n) → Waiting st held n
+unfolding judgeOf shortOf
+waits st held n e =
+    go (leb (totalOf (st .kind) (st .plan)) (st .passed)) refl (ltb (length held) 12) refl
+    (headerOf (st .passed + 1) (codesOf (st .kind) (nextSpot st .run)) (nextSpot st .length) held) (ltb (length held) (nextSpot st .length)) refl
+    (bodyOf (st .kind) (nextSpot st .run) (st .plan) (st .passed) (take (nextSpot st .length) held)) e
+  where
+    go : (x : Bool) → leb (totalOf (st .kind) (st .plan)) (st .passed) ≡ x → (y : Bool) → ltb (length held) 12 ≡ y → (h : Verdict)
+        → (z : Bool) → ltb (length held) (nextSpot st .length) ≡ z → (t : Verdict)
+        → pick x (Halt (endedOf (st .passed + 1) (nextSpot st .start) (length held) false))
+        (pick y (Halt (pick false (refusedAt (st .passed + 1) (nextSpot st .start) 2 0) (Wait (12 - length held))))
+        (onFine h (st .passed + 1) (nextSpot st .start)
+        (pick z (Halt (pick false (refusedAt (st .passed + 1) (nextSpot st .start) 2 0) (Wait (nextSpot st .length - length held))))
+        (onFine t (st .passed + 1) (nextSpot st .start) Pass)))) ≡ Halt (Wait n)
+        → Waiting st held n
+    go true ex y ey h z ez t e = behind (leb-true _ _ ex)
+    go false ex true ey h z ez t e = let l : length held < 12 = ltb-true _ _ ey in let m : 12 - length held ≡ n = waited (halted e) in header-rest (leb-false _ _ ex) (omega arith) (omega arith)
+    go false ex false ey (Fault m a) z ez t e = absurd (refused≢wait _ _ _ _ _ e)
+    go false ex false ey Fine true ez t e =
+        let l : length held < nextSpot st .length = ltb-true _ _ ez in let m : nextSpot st .length - length held ≡ n = waited (halted e) in record-rest (leb-false _ _ ex) (omega arith) (omega arith)
+    go false ex false ey Fine false ez (Fault m a) e = absurd (refused≢wait _ _ _ _ _ e)
+    go false ex false ey Fine false ez Fine e = absurd (pass≢wait _ e)
+
+-- ---- what a turn says, back to what the walk by one record did
+
+-- the bytes held are of the next record alone, or nothing is due any more
+abbrev Room : State → List ℕ → Type 0
+Room st held = (length held ≤ nextSpot st .length) ⊎ (totalOf (st .kind) (st .plan) ≤ st .passed)
+
+-- the walk of the whole, closed: its row, or lines that are too long
+abbrev Closes : State → List ℕ → Row → Type 0
+Closes st bs row =
+    (b : ℕ) → walkOf b st bs true .stop ≢ Pause
+    → (row ≡ closingRow (walkOf b st bs true)) ⊎ ((row ≡ TooLong) × (longest < walkOf b st bs true .state .plan .l))
+
+want≢next : {m : ℕ} {r : Row} → Want m ≡ Next r → ⊥
+want≢next e = let z : _≡_ {A = ℕ} 0 1 = cc in omega arith
+
+want≢last : {m : ℕ} {r : Row} → Want m ≡ Last r → ⊥
+want≢last e = let z : _≡_ {A = ℕ} 0 1 = cc in omega arith
+
+next≢last : {r q : Row} → Next r ≡ Last q → ⊥
+next≢last e = let z : _≡_ {A = ℕ} 0 1 = cc in omega arith
+
+wanted-same : {m n : ℕ} → Want m ≡ Want n → m ≡ n
+wanted-same e = cc
+
+last-same : {r q : Row} → Last r ≡ Last q → r ≡ q
+last-same e = cc
+
+module _ (st : State) (held : List ℕ) (c : Bool) where
+  told-long : tooLong st ≡ true → toldOf st held c ≡ record { state = st; say = Last TooLong }
+  unfolding toldOf
+  told-long e = ap (λ (b : Bool). pick b (record { state = st; say = Last TooLong }) (toldBy st held (walkOf 1 st held c))) e
+
+  told-short : tooLong st ≡ false → toldOf st held c ≡ toldBy st held (walkOf 1 st held c)
+  unfolding toldOf
+  told-short e = ap (λ (b : Bool). pick b (record { state = st; say = Last TooLong }) (toldBy st held (walkOf 1 st held c))) e
+
+-- too long: a first record has passed
+long-passed : (st : State) → tooLong st ≡ true → (st .passed ≡ 0 → ⊥) × (longest < st .plan .l)
+unfolding tooLong
+long-passed st e = go (eqb (st .passed) 0) refl e
+  where
+    go : (b : Bool) → eqb (st .passed) 0 ≡ b → pick b false (ltb longest (st .plan .l)) ≡ true → (st .passed ≡ 0 → ⊥) × (longest < st .plan .l)
+    go true q e = absurd (false≢true e)
+    go false q e = (eqb-false _ _ q, ltb-true _ _ e)
+
+-- by the stop of the walk by one record
+module _ (st : State) (held : List ℕ) (after : State) where
+  say-want : (x : Stop) (m : ℕ) → sayOf st held after x ≡ Want m → (n : ℕ) × (x ≡ Wait n) × (m ≡ wanted n)
+  say-want (Wait n) m e = (n, refl, sym (wanted-same e))
+  say-want Pause m e = absurd (want≢next (sym e))
+  say-want Complete′ m e = absurd (want≢last (sym e))
+  say-want (Refused′ r) m e = absurd (want≢last (sym e))
+
+  say-next : (x : Stop) (r : Row) → sayOf st held after x ≡ Next r → x ≡ Pause
+  say-next (Wait n) r e = absurd (want≢next e)
+  say-next Pause r e = refl
+  say-next Complete′ r e = absurd (next≢last (sym e))
+  say-next (Refused′ q) r e = absurd (next≢last (sym e))
+
+  say-last : (x : Stop) (r : Row) → sayOf st held after x ≡ Last r → (r ≡ closingBy after x) × (x ≢ Pause) × ((n : ℕ) → x ≡ Wait n → ⊥)
+  say-last (Wait n) r e = absurd (want≢last e)
+  say-last Pause r e = absurd (next≢last e)
+  say-last Complete′ r e = (sym (last-same e), λ q. complete≢pause q, λ n q. wait≢complete (sym q))
+  say-last (Refused′ q) r e = (sym (last-same e), λ z. refused≢pause z, λ n z. wait≢refused (sym z))
+
+-- ---- one turn of the walk
+
+module _ (st : State) (held : List ℕ) (good : goodState st ≡ true) where
+  -- a wait of the walk by one record is a turn's
+  turn-waits : (n : ℕ) → walkOf 1 st held false .stop ≡ Wait n → turnOf st held false ≡ Halt (Wait n)
+  turn-waits n e = go (turnOf st held false) refl
+    where
+      go : (t : Turn) → turnOf st held false ≡ t → turnOf st held false ≡ Halt (Wait n)
+      go Pass q = absurd (wait≢pause (sym e ∙ ap (λ (w : Walked). w .stop) (one-turn st held false good q)))
+      go (Halt x) q = q ∙ ap Halt (sym (ap (λ (w : Walked). w .stop) (walk-halt st held false 0 x good q)) ∙ e)
+
+  turn-passes : walkOf 1 st held false .stop ≡ Pause → turnOf st held false ≡ Pass
+  turn-passes e = go (turnOf st held false) refl
+    where
+      go : (t : Turn) → turnOf st held false ≡ t → turnOf st held false ≡ Pass
+      go Pass q = q
+      go (Halt x) q = absurd (never-pause st held false x q (sym (ap (λ (w : Walked). w .stop) (walk-halt st held false 0 x good q)) ∙ e))
+
+  -- what is wanted fits the next record
+  want-fits : st .kind ≡ image′ → (n : ℕ) → walkOf 1 st held false .stop ≡ Wait n → (p : List ℕ) → length p ≤ wanted n → Room st (held ++ p)
+  unfolding wanted
+  want-fits k n e p l = go (waits st held n (turn-waits n e))
+    where
+      some : 1 ≤ n → pick (eqb n 0) 1 n ≡ n
+      some h = ap (λ (b : Bool). pick b 1 n) (ne-eqb n 0 (λ z. omega arith))
+
+      least : st .passed < totalOf (st .kind) (st .plan) → 12 ≤ nextSpot st .length
+      least h =
+          subst (λ (i : ℕ). 12 ≤ spotOf i (st .plan) (st .passed) .length) (sym k) (due-least st good k (subst (λ (i : ℕ). st .passed < totalOf i (st .plan)) k h))
+
+      go : Waiting st held n → Room st (held ++ p)
+      go (behind h) = inr h
+      go (header-rest h q o) = let a = length-append held p in let b = some o in let c = least h in inl (omega arith)
+      go (record-rest h q o) = let a = length-append held p in let b = some o in inl (omega arith)
+
+-- a budget that does not pause is not 0
+budget-some : (b : ℕ) (st : State) (bs : List ℕ) → goodState st ≡ true → walkOf b st bs true .stop ≢ Pause → (d : ℕ) × (b ≡ suc d)
+budget-some zero st bs g h = absurd (h (ap (λ (w : Walked). w .stop) (walk-pause st bs true g)))
+budget-some (suc d) st bs g h = (d, refl)
+
+-- ---- the listing
+
+closes-assoc : (st : State) (held p rest : List ℕ) (row : Row) → Closes st ((held ++ p) ++ rest) row → Closes st (held ++ (p ++ rest)) row
+closes-assoc st held p rest row c = subst (λ (bs : List ℕ). Closes st bs row) (append-assoc held p rest) c
+
+-- the last row where nothing more is read: closed, or a refusal while more may come
+closes-long : (st : State) (bs : List ℕ) (row : Row) → tooLong st ≡ true → Last TooLong ≡ Last row → Closes st bs row
+closes-long st bs row e q b h =
+    let f = long-passed st e in
+    inr (sym (last-same q), subst (λ (p : Plan). longest < p .l) (sym (plan-kept b st bs true (f .0))) (f .1))
+
+closes-ended : (st : State) (held : List ℕ) (row : Row) → goodState st ≡ true → tooLong st ≡ false → toldOf st held true .say ≡ Last row → Closes st (held ++ []) row
+closes-ended st held row g s e b h =
+    let w = walkOf 1 st held true in
+    let q = say-last st held (w .state) (w .stop) row (sym (ap (λ (t : Told). t .say) (told-short st held true s)) ∙ e) in
+    let k : walkOf b st held true .stop ≢ Pause = subst (λ (bs : List ℕ). walkOf b st bs true .stop ≢ Pause) (append-nil held) h in
+    let (d, m) = budget-some b st held g k in
+    let v : walkOf b st held true ≡ w = ap (λ (i : ℕ). walkOf i st held true) (m ∙ (let o : suc d ≡ 1 + d = omega arith in o)) ∙ budget-stays 1 st held true (q .1) d in
+    inl (q .0 ∙ ap closingRow (sym v) ∙ ap (λ (bs : List ℕ). closingRow (walkOf b st bs true)) (sym (append-nil held)))
+
+-- closed with more bytes, a refusal stays
+closes-refused : (st : State) (held rest : List ℕ) (row : Row) → goodState st ≡ true → tooLong st ≡ false → toldOf st held false .say ≡ Last row → Closes st (held ++ rest) row
+closes-refused st held rest row g s e b h = go (walkOf 1 st held false .stop) refl
+  where
+    go : (x : Stop) → walkOf 1 st held false .stop ≡ x
+        → (row ≡ closingRow (walkOf b st (held ++ rest) true)) ⊎ ((row ≡ TooLong) × (longest < walkOf b st (held ++ rest) true .state .plan .l))
+    go (Wait n) z = absurd (say-last st held (walkOf 1 st held false .state) (walkOf 1 st held false .stop) row (sym (ap (λ (t : Told). t .say) (told-short st held false s)) ∙ e) .2 n z)
+    go Pause z = absurd (say-last st held (walkOf 1 st held false .state) (walkOf 1 st held false .stop) row (sym (ap (λ (t : Told). t .say) (told-short st held false s)) ∙ e) .1 z)
+    go Complete′ z = absurd (open-never-complete 1 st held z)
+    go (Refused′ r) z =
+        let (d, m) = budget-some b st (held ++ rest) g h in
+        let v : walkOf b st (held ++ rest) true ≡ walkOf 1 st held false =
+        ap (λ (i : ℕ). walkOf i st (held ++ rest) true) (m ∙ (let o : suc d ≡ 1 + d = omega arith in o)) ∙ refusal-stays 1 st held r z rest true d in
+        inl (say-last st held (walkOf 1 st held false .state) (walkOf 1 st held false .stop) row (sym (ap (λ (t : Told). t .say) (told-short st held false s)) ∙ e) .0 ∙ ap closingRow (sym v))
+
+-- a record that passes is all that is held; the walk goes on behind it
+closes-next : (st : State) (held rest : List ℕ) (row : Row) → goodState st ≡ true → turnOf st held false ≡ Pass → Room st held
+    → Closes (nextOf st held) ([] ++ rest) row → Closes st (held ++ rest) row
+closes-next st held rest row g t room c b h =
+    let (d, m) = budget-some b st (held ++ rest) g h in
+    let r = turn-room st held false t in
+    let full : length held ≤ nextSpot st .length = ⊎-elim (λ l. l) (λ l. absurd (let o = pass-going (st .kind) (st .plan) (st .passed) (nextSpot st) held false t in omega arith)) room in
+    let u = turn-pass-stays st held rest true t in
+    let v : walkOf b st (held ++ rest) true ≡ more 1 (walkOf d (nextOf st held) ([] ++ rest) true) =
+    ap (λ (i : ℕ). walkOf i st (held ++ rest) true) m
+    ∙ walk-pass st (held ++ rest) true d g u
+    ∙ ap (λ (x : State). more 1 (walkOf d x (drop (nextSpot st .length) (held ++ rest)) true)) (next-stays st held rest t)
+    ∙ ap (λ (bs : List ℕ). more 1 (walkOf d (nextOf st held) bs true)) (rest-stays st held rest t ∙ ap (λ (x : List ℕ). x ++ rest) (drop-of-length-le held full)) in
+    let k : walkOf d (nextOf st held) ([] ++ rest) true .stop ≢ Pause = λ z. h (ap (λ (w : Walked). w .stop) v ∙ z) in
+    ⊎-elim (λ e. inl (e ∙ sym (ap closingRow v))) (λ e. inr (e .0, subst (λ (w : Walked). longest < w .state .plan .l) (sym v) (e .1))) (c d k)
+
+kind-next : (st : State) (held : List ℕ) → nextOf st held .kind ≡ st .kind
+unfolding nextOf
+kind-next st held = refl
+
+lists-is : {st : State} {held rest : List ℕ} {row : Row} → Lists st held rest row → goodState st ≡ true → st .kind ≡ image′ → Room st held → Closes st (held ++ rest) row
+lists-is {st} {held} (piece {rest = rest} {row = row} p m e l more′) g k room =
+    ⊎-elim (λ s. absurd (want≢last (sym e ∙ ap (λ (t : Told). t .say) (told-long st held false s))))
+    (λ s.
+    let w = walkOf 1 st held false in
+    let (n, z, y) = say-want st held (w .state) (w .stop) m (sym (ap (λ (t : Told). t .say) (told-short st held false s)) ∙ e) in
+    closes-assoc st held p rest row (lists-is more′ g k (want-fits st held g k n z p (subst (λ (i : ℕ). length p ≤ i) y l))))
+    (cases (tooLong st))
+lists-is {st} {held} (ended {row = row} m e f) g k room =
+    ⊎-elim (λ s. absurd (want≢last (sym e ∙ ap (λ (t : Told). t .say) (told-long st held false s)))) (λ s. closes-ended st held row g s f) (cases (tooLong st))
+lists-is {st} {held} {rest} {row} (next r e after) g k room =
+    ⊎-elim (λ s. absurd (next≢last (sym e ∙ ap (λ (t : Told). t .say) (told-long st held false s))))
+    (λ s.
+    let w = walkOf 1 st held false in
+    let z = say-next st held (w .state) (w .stop) r (sym (ap (λ (t : Told). t .say) (told-short st held false s)) ∙ e) in
+    let t = turn-passes st held g z in
+    let o : toldOf st held false .state ≡ nextOf st held = ap (λ (x : Told). x .state) (told-short st held false s) ∙ ap (λ (x : Walked). x .state) (one-turn st held false g t) in
+    closes-next st held rest row g t room
+    (subst (λ (x : State). Closes x ([] ++ rest) row) o
+    (lists-is after (subst (λ (x : State). goodState x ≡ true) (sym o) (good-next st held false g t)) (ap (λ (x : State). x .kind) o ∙ kind-next st held ∙ k) (inl (omega arith)))))
+    (cases (tooLong st))
+lists-is {st} {held} {rest} {row} (last e) g k room =
+    ⊎-elim (λ s. closes-long st (held ++ rest) row s (sym (ap (λ (t : Told). t .say) (told-long st held false s)) ∙ e)) (λ s. closes-refused st held rest row g s e) (cases (tooLong st))
+
+-- begun fresh, with nothing held: the last row is the whole closed walk's answer, with any budget that does not pause; or RECORD TOO LONG, where L is over 32,768
+pub listing-is-walk : {input : List ℕ} {row : Row} → Lists (fresh image′) [] input row → (b : ℕ) → walkOf b (fresh image′) input true .stop ≢ Pause
+    → (row ≡ closingRow (walkOf b (fresh image′) input true)) ⊎ ((row ≡ TooLong) × (longest < walkOf b (fresh image′) input true .state .plan .l))
+listing-is-walk l = lists-is l (good-fresh image) refl (inl (omega arith))
