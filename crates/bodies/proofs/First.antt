@@ -13,14 +13,17 @@ use Rattle.decimal.specs.declared.Form.the-variants.{I4, I6, I8}
 use Rattle.plan.specs.Tables.{slotOf}
 use Rattle.plan.specs.Plan.{planGood, volumeGood, leaderGood, imageGood, zeroPlan?, allZero, slotGood, slotsGood}
 use Rattle.plan.specs.declared.Plan.{Plan}
-use Rattle.bodies.specs.Bodies.{numberAt, numberRow, numbersTests, agreements, pair, pairs, pairRow, admitted, admittedPair, countAt, lengthAt, pairTests, volumeTests, leaderTests, imageTests, volumeRecord, leaderRecord, imageRecord, bodyTests, bodyOf}
-use Rattle.bodies.specs.Named.{countsOf, lengthsOf, planOf}
-use Rattle.bodies.specs.declared.Verdict.the-variants.{Fine}
-use Rattle.bodies.proofs.FillLaws.{map-at}
-use Rattle.bodies.proofs.Holding.{Holds, fine-holds, holds-split, each-holds, row-holds}
-use Rattle.bodies.proofs.ImageLaws.{bounded}
-use Rattle.bodies.proofs.PairLaws.{length-none, count-in, length-in}
-use Rattle.bodies.proofs.TableLaws.{admitted-bound, admitted-row}
+use Rattle.checks.specs.Parts.{numberAt, numberRow, numbersTests}
+use Rattle.leader.specs.Leader.{pair, pairs, pairRow, admitted, admittedPair, countAt, lengthAt, pairTests, leaderTests, leaderRecord, countsOf, lengthsOf}
+use Rattle.image.specs.Image.{agreements, imageTests, imageRecord}
+use Rattle.bodies.specs.Bodies.{volumeTests, volumeRecord, bodyTests, bodyOf}
+use Rattle.bodies.specs.Named.{planOf}
+use Rattle.checks.specs.declared.Verdict.the-variants.{Fine}
+use Rattle.leader.proofs.FillLaws.{map-at}
+use Rattle.checks.proofs.Holding.{Holds, fine-holds, holds-split, each-holds, row-holds}
+use Rattle.image.proofs.ImageLaws.{bounded}
+use Rattle.leader.proofs.PairLaws.{length-none, count-in, length-in}
+use Rattle.leader.proofs.TableLaws.{admitted-bound, admitted-row}
 
 -- ---- a leader's slots
 

@@ -1,9 +1,1 @@
-pub mod TestLaws
-pub mod FieldLaws
-pub mod TextLaws
-pub mod TableLaws
-pub mod FillLaws
-pub mod Holding
-pub mod PairLaws
-pub mod ImageLaws
 pub mod First

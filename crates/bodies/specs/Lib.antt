@@ -1,4 +1,3 @@
--- The specs of `bodies`: lists of tests, the tests of each record's body in document 01's order, and the plan that a first record names.
-pub mod Tests
+-- The specs of `bodies`: the tests of each record's body in document 01's order, and the plan that a first record names.
 pub mod Bodies
 pub mod Named

@@ -1,20 +1,14 @@
 -- The plan's numbers that a first record names; numbers that the kind does not use are 0. Assumes nothing.
 use Prim.Native.Nat.{ℕ}
-use mathlib.Core.List.{List, map}
+use mathlib.Core.List.{List}
 use lib.Dec.{eqb}
 use lib.ListN.{replicate}
 use Rattle.words.specs.Tests.{pick}
 use Rattle.decimal.specs.declared.Form.the-variants.{I4, I6, I8}
 use Rattle.plan.specs.Plan.{volume, leader, image, zeroPlan}
 use Rattle.plan.specs.declared.Plan.{Plan}
-use Rattle.bodies.specs.Bodies.{numberAt, admitted, pairRow, countAt, lengthAt}
-
--- the counts and the lengths of the admitted slots and of the facility pairs
-unfoldable pub countsOf : List ℕ → List ℕ
-countsOf r = map (λ j. countAt r (pairRow j)) admitted
-
-unfoldable pub lengthsOf : List ℕ → List ℕ
-lengthsOf r = map (λ j. lengthAt r (pairRow j)) admitted
+use Rattle.checks.specs.Parts.{numberAt}
+use Rattle.leader.specs.Leader.{countsOf, lengthsOf}
 
 -- the plan that the first record of a file of that kind names
 unfoldable pub planOf : ℕ → List ℕ → Plan

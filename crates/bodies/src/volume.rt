@@ -1,19 +1,19 @@
 // The volume directory: its descriptor, pointers and text record.
-use crate::Verdict;
+use checks::Verdict;
 ghost use mathlib.Core.Path.{_≡_};
 ghost use Rattle.words.specs.Words.{placeOf};
-ghost use Rattle.bodies.specs.Tests.{firstFault, textTest};
+ghost use Rattle.checks.specs.Tests.{firstFault, textTest};
 ghost use Rattle.bodies.specs.Bodies.{volumeTests, pointerTests, classText, volumeRecord};
 ghost use mathlib.Core.List.{[], _∷_};
 
 fn descriptor(r: &[u8]) -> Verdict
     ensures { λ v. ⌜ v ≡ firstFault (volumeTests (now (r .entry))) ⌝ }
 {
-    let v = crate::first_text(r);
+    let v = checks::first_text(r);
     let Verdict::Fine = v else {
         return v;
     };
-    crate::numbers(r, 0, 1)
+    checks::numbers(r, 0, 1)
 }
 
 // The class of pointer k of m: `SARL` first, `SART` last, `IMOP` between.
@@ -21,12 +21,12 @@ fn class(m: u64, k: u64, r: &[u8]) -> Verdict
     ensures { λ v. ⌜ v ≡ firstFault (textTest (now (r .entry)) 65 (classText m k) ∷ []) ⌝ }
 {
     if k == 1 {
-        return crate::fixed(r, 65, b"SARL");
+        return checks::fixed(r, 65, b"SARL");
     }
     if k == m {
-        return crate::fixed(r, 65, b"SART");
+        return checks::fixed(r, 65, b"SART");
     }
-    crate::fixed(r, 65, b"IMOP")
+    checks::fixed(r, 65, b"IMOP")
 }
 
 fn pointer(m: u64, k: u64, r: &[u8]) -> Verdict
@@ -36,7 +36,7 @@ fn pointer(m: u64, k: u64, r: &[u8]) -> Verdict
     let Verdict::Fine = v else {
         return v;
     };
-    crate::numbers(r, 1, 3)
+    checks::numbers(r, 1, 3)
 }
 
 // Record k of a directory with m pointers: the descriptor, a pointer, or the text record, whose

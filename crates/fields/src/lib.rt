@@ -7,7 +7,7 @@ use words::Refusal;
 ghost use mathlib.Core.Path.{_≡_};
 ghost use Prim.Native.Nat.{_<_};
 ghost use Rattle.fields.specs.Field.{fieldAt, fromWritten, refuse};
-ghost use Rattle.fields.specs.Listed.{listed, listedField};
+ghost use Rattle.fields.specs.Listed.{row, listed, listedField};
 
 // What a number field says: one signed whole number of units in the last written place with its
 // exponent (0 for I and F), blank, or a refusal.
@@ -22,61 +22,6 @@ pub struct Listed {
     pub first: usize,
     pub form: Form,
 }
-
-const LISTED: [Listed; 13] = [
-    Listed {
-        first: 477,
-        form: Form::F8d3,
-    },
-    Listed {
-        first: 711,
-        form: Form::F16d7,
-    },
-    Listed {
-        first: 743,
-        form: Form::F16d7,
-    },
-    Listed {
-        first: 935,
-        form: Form::F16d7,
-    },
-    Listed {
-        first: 1887,
-        form: Form::E20d13,
-    },
-    Listed {
-        first: 1907,
-        form: Form::E20d13,
-    },
-    Listed {
-        first: 1927,
-        form: Form::E20d13,
-    },
-    Listed {
-        first: 1947,
-        form: Form::E20d13,
-    },
-    Listed {
-        first: 1967,
-        form: Form::E20d13,
-    },
-    Listed {
-        first: 1987,
-        form: Form::E20d13,
-    },
-    Listed {
-        first: 61,
-        form: Form::I16,
-    },
-    Listed {
-        first: 77,
-        form: Form::I16,
-    },
-    Listed {
-        first: 93,
-        form: Form::F16d7,
-    },
-];
 
 // A field's refusal names no record: ordinal 0.
 fn refused(number: u64, place: u64) -> Field
@@ -115,12 +60,34 @@ pub fn field_at(bytes: &[u8], at: usize, form: Form) -> Field
     from_written(decimal::read(&bytes[at..end], form), at)
 }
 
-// Row i of the table, from 0.
+// A row of the table.
+fn row(first: usize, form: Form) -> Listed
+    ensures { λ r. ⌜ r ≡ row first form ⌝ }
+{
+    Listed { first, form }
+}
+
+// Row i of the table, from 0: fields 1 to 10 stand in the summary record, 11 to 13 in the map record.
+// It is no array, since one of structs is built anew at each look into it (docs/SPEED.md).
 pub fn listed_row(i: usize) -> Listed
     requires { ⌜ i < 13 ⌝ }
     ensures { λ r. ⌜ r ≡ listed i ⌝ }
 {
-    LISTED[i]
+    match i {
+        0 => row(477, Form::F8d3),
+        1 => row(711, Form::F16d7),
+        2 => row(743, Form::F16d7),
+        3 => row(935, Form::F16d7),
+        4 => row(1887, Form::E20d13),
+        5 => row(1907, Form::E20d13),
+        6 => row(1927, Form::E20d13),
+        7 => row(1947, Form::E20d13),
+        8 => row(1967, Form::E20d13),
+        9 => row(1987, Form::E20d13),
+        10 => row(61, Form::I16),
+        11 => row(77, Form::I16),
+        _ => row(93, Form::F16d7),
+    }
 }
 
 // The field reader: a record's bytes and the number of a listed field. No such number is 14; then 2

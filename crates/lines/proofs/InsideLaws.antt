@@ -8,28 +8,25 @@ use lib.ListN.{length}
 use borrow.Author.Tests.{lt-ltb, eqb-true}
 use Rattle.words.specs.Words.{fourAt, placeOf}
 use Rattle.words.proofs.Laws.{within-true}
-use Rattle.plan.specs.Plan.{image, group, ahead, firstLength, runCounts, runLengths, spotFrom, spotOf, codesOf}
+use Rattle.plan.specs.Plan.{image, group, firstLength, runCounts, runLengths, spotFrom, spotOf, codesOf}
 use Rattle.plan.specs.declared.Plan.{Plan}
+use Rattle.plan.proofs.CodeLaws.{line-spot}
 use Rattle.plan.specs.declared.Spot.{Spot}
-use Rattle.bodies.specs.Tests.{firstFault, andThen}
-use Rattle.bodies.specs.Bodies.{lineTests, imageRecord, bodyTests, bodyOf}
-use Rattle.bodies.specs.declared.Verdict.{Verdict}
-use Rattle.bodies.specs.declared.Verdict.the-variants.{Fine, Fault}
-use Rattle.bodies.proofs.Holding.{fine-holds}
-use Rattle.walk.specs.Turn.{headerOf}
-use Rattle.walk.proofs.TurnLaws.{not-fine}
-use Rattle.lines.specs.View.{leftOf, dataOf, pixelsFrom, foundIn, recordAt, firstOf, viewOf, Lined}
+use Rattle.checks.specs.Tests.{firstFault, andThen}
+use Rattle.image.specs.Image.{lineTests, imageRecord}
+use Rattle.bodies.specs.Bodies.{bodyTests, bodyOf}
+use Rattle.checks.specs.declared.Verdict.{Verdict}
+use Rattle.checks.specs.declared.Verdict.the-variants.{Fine, Fault}
+use Rattle.checks.proofs.Holding.{fine-holds}
+use Rattle.turns.specs.Turn.{headerOf}
+use Rattle.turns.proofs.TurnLaws.{not-fine}
+use Rattle.lines.specs.View.{leftOf, dataOf, pixelsFrom, foundIn, recordAt, lineOf, firstOf, viewOf}
 use Rattle.lines.specs.declared.View.the-variants.{Shown}
 use Rattle.lines.proofs.LinedLaws.{lined}
 use Rattle.lines.proofs.ViewLaws.{Seen, line-seen, view-line}
 
--- line k's record: the run of lines, L bytes, behind the first record and the lines before it
-pub line-spot : (p : Plan) (k : ℕ) → k < p .n → spotOf image p (suc k) ≡ record { run = 1; length = p .l; start = 720 + k * p .l }
-unfolding spotOf spotFrom runCounts runLengths firstLength
-line-spot p k h = simp (lt-ltb _ _ h)
-
 -- the data pixels of a line, of g bytes each, end before the suffix
-pub data-fits : (g : ℕ) (p : Plan) (left count right : ℕ) → p .d ≡ g * p .w → ahead + p .d + p .s ≤ p .l → left + count + right ≡ p .w
+pub data-fits : (g : ℕ) (p : Plan) (left count right : ℕ) → p .d ≡ g * p .w → p .d + p .s ≤ p .l → left + count + right ≡ p .w
     → pixelsFrom p + g * left + g * count ≤ p .l - p .s
 data-fits g p left count right e h f =
     let a : g * p .w ≡ g * (left + count + right) = ap (λ (w : ℕ). g * w) (sym f) in
@@ -59,24 +56,32 @@ line-fills : (p : Plan) (k : ℕ) (r : List ℕ) → bodyOf image 1 p k r ≡ Fi
 unfolding lineTests
 line-fills p k r e = eqb-true _ _ (fine-holds (lineTests (p .w) k r) (sym (line-body p k r) ∙ e) .1 .1 .0)
 
--- of a line that is shown: its data pixels end within the bytes held
-seen-within : (p : Plan) (k : ℕ) (bs : List ℕ) (start count left : ℕ) → Lined p → Seen p k (spotOf image p k) bs start count left → start + group * count ≤ length bs
-seen-within p zero bs start count left o q = absurd (let h = within-true 1 0 (p .n) (q .inside) in omega arith)
-seen-within p (suc k) bs start count left o q =
-    let h = within-true 1 (suc k) (p .n) (q .inside) in
-    let e = line-spot p k (omega arith) in
-    go (spotOf image p (suc k)) e q
-  where
-    go : (s : Spot) → s ≡ record { run = 1; length = p .l; start = 720 + k * p .l } → Seen p (suc k) s bs start count left → start + group * count ≤ length bs
-    go s e q =
-        let h = within-true 1 (suc k) (p .n) (q .inside) in
-        let r = recordAt s bs in
-        let b : bodyOf image 1 p (suc k) r ≡ Fine = subst (λ (i : ℕ). bodyOf image i p (suc k) r ≡ Fine) (ap (λ (x : Spot). x .run) e) (found-parts p (suc k) s r (q .fine) .1) in
-        let l : s .length ≡ p .l = ap (λ (x : Spot). x .length) e in
-        let c : group * count ≡ group * dataOf r = ap (λ (n : ℕ). group * n) (q .counts) in
-        omega (arith, data-fits group p (leftOf r) (dataOf r) (fourAt r (placeOf 29)) (o .paired (omega arith)) (o .room (omega arith)) (line-fills p (suc k) r b), q .whole, q .starts)
+-- of a line that is shown under a plan whose pixels, of g bytes each, fill d: its data pixels end within the bytes held
+module _ (g : ℕ) (p : Plan) (paired : p .d ≡ g * p .w) (room : p .d + p .s ≤ p .l) where
+  seen-within : (k : ℕ) (bs : List ℕ) (start count left : ℕ) → Seen g p k (spotOf image p k) bs start count left → start + g * count ≤ length bs
+  seen-within zero bs start count left q = absurd (let h = within-true 1 0 (p .n) (q .inside) in omega arith)
+  seen-within (suc k) bs start count left q =
+      let h = within-true 1 (suc k) (p .n) (q .inside) in
+      let e = line-spot p k (omega arith) in
+      go (spotOf image p (suc k)) e q
+    where
+      go : (s : Spot) → s ≡ record { run = 1; length = p .l; start = 720 + k * p .l } → Seen g p (suc k) s bs start count left → start + g * count ≤ length bs
+      go s e q =
+          let r = recordAt s bs in
+          let b : bodyOf image 1 p (suc k) r ≡ Fine = subst (λ (i : ℕ). bodyOf image i p (suc k) r ≡ Fine) (ap (λ (x : Spot). x .run) e) (found-parts p (suc k) s r (q .fine) .1) in
+          let l : s .length ≡ p .l = ap (λ (x : Spot). x .length) e in
+          let c : g * count ≡ g * dataOf r = ap (λ (n : ℕ). g * n) (q .counts) in
+          omega (arith, data-fits g p (leftOf r) (dataOf r) (fourAt r (placeOf 29)) paired room (line-fills p (suc k) r b), q .whole, q .starts)
 
-pub shown-within : (bs : List ℕ) (k start count left : ℕ) → viewOf bs k ≡ Shown start count left → start + group * count ≤ length bs
+  pub line-within : (k : ℕ) (bs : List ℕ) (start count left : ℕ) → lineOf g p k bs ≡ Shown start count left → start + g * count ≤ length bs
+  line-within k bs start count left e = seen-within k bs start count left (line-seen g p k bs start count left e)
+
+-- and of a line that is shown under the first record's plan, whose samples have `group` bytes
+pub shown-within : (bs : List ℕ) (k start count left : ℕ) → viewOf group bs k ≡ Shown start count left → start + group * count ≤ length bs
 shown-within bs k start count left e =
-    seen-within (firstOf bs .state .plan) k bs start count left (lined bs)
-    (line-seen (firstOf bs .state .plan) k bs start count left (view-line bs k start count left e))
+    let p = firstOf bs .state .plan in
+    let a = view-line group bs k start count left e in
+    let h = within-true 1 k (p .n) (line-seen group p k bs start count left a .inside) in
+    let o = lined bs in
+    let some : 1 ≤ p .n = omega arith in
+    line-within group p (o .paired some) (let m = o .room some in omega arith) k bs start count left a

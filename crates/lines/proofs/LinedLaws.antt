@@ -11,6 +11,7 @@ use Rattle.words.specs.Tests.{bothOf, withinOf}
 use Rattle.words.proofs.Laws.{both-l, both-r, cases}
 use Rattle.plan.specs.Plan.{image, group, ahead, slotsZero?, imageZero?, zeroPlan?, imageRanges, imageAgrees, imageGood, planGood, runCounts, runLengths, Small}
 use Rattle.plan.specs.declared.Plan.{Plan}
+use Rattle.plan.proofs.GoodLaws.{image-agrees}
 use Rattle.walk.specs.Rule.{fresh, goodState}
 use Rattle.walk.specs.declared.State.{State}
 use Rattle.walk.proofs.GoodLaws.{good-zero, good-later, ready, fresh-good}
@@ -18,15 +19,6 @@ use Rattle.walk.proofs.KeptLaws.{good-kept, kind-kept}
 use Rattle.lines.specs.View.{firstOf, Lined}
 
 module _ (p : Plan) where
-  -- an image's agreements
-  image-agrees : planGood image p ≡ true → (p .d ≡ group * p .w) × (ahead + p .d + p .s ≤ p .l)
-  unfolding planGood imageGood
-  image-agrees g =
-      let a = both-r (imageRanges p) (imageAgrees p) (both-r (bothOf (eqb (p .pointers) 0) (slotsZero? p)) (bothOf (imageRanges p) (imageAgrees p)) g) in (
-        eqb-true _ _ (both-l (eqb (p .d) (group * p .w)) (leb (ahead + p .d + p .s) (p .l)) a),
-        leb-true _ _ (both-r (eqb (p .d) (group * p .w)) (leb (ahead + p .d + p .s) (p .l)) a),
-      )
-
   no-lines : zeroPlan? p ≡ true → p .n ≡ 0
   unfolding zeroPlan?
   no-lines z = eqb-true (p .n) 0 (both-l (eqb (p .n) 0) _ (both-r (slotsZero? p) (imageZero? p) (both-r (eqb (p .pointers) 0) _ z)))
@@ -35,10 +27,10 @@ module _ (p : Plan) where
   unfolding runCounts runLengths
   small-lines s = (s .few 0 (omega arith), s .short 0 (omega arith))
 
-  made : Small (runCounts image p) (runLengths image p) → (1 ≤ p .n → (p .d ≡ group * p .w) × (ahead + p .d + p .s ≤ p .l)) → Lined p
+  made : Small (runCounts image p) (runLengths image p) → (1 ≤ p .n → (p .d ≡ group * p .w) × (ahead + p .d + p .s ≤ p .l)) → Lined group p
   made s a = record { small = s; lines = small-lines s .0; long = small-lines s .1; room = λ h. a h .1; paired = λ h. a h .0 }
 
-pub lined-good : (st : State) → goodState st ≡ true → st .kind ≡ image → Lined (st .plan)
+pub lined-good : (st : State) → goodState st ≡ true → st .kind ≡ image → Lined group (st .plan)
 lined-good st g k =
     made (st .plan) (subst (λ (i : ℕ). Small (runCounts i (st .plan)) (runLengths i (st .plan))) k (ready st g .small))
     (λ h. ⊎-elim
@@ -47,5 +39,5 @@ lined-good st g k =
     (cases (eqb (st .passed) 0)))
 
 -- the plan behind the first record
-pub lined : (bs : List ℕ) → Lined (firstOf bs .state .plan)
+pub lined : (bs : List ℕ) → Lined group (firstOf bs .state .plan)
 lined bs = lined-good (firstOf bs .state) (good-kept 1 (fresh image) bs false (fresh-good image (omega arith) (omega arith))) (kind-kept 1 (fresh image) bs false)

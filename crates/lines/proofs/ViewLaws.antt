@@ -12,20 +12,22 @@ use denote.Enum.Declared.{tagOf}
 use borrow.Author.Tests.{lt-ltb, le-ltb, ltb-false}
 use Rattle.words.specs.Tests.{pick, withinOf}
 use Rattle.words.specs.declared.Refusal.{Refusal}
-use Rattle.plan.specs.Plan.{image, group, spotOf, codesOf}
+use Rattle.plan.specs.Plan.{image, spotOf, codesOf}
 use Rattle.plan.specs.declared.Plan.{Plan}
 use Rattle.plan.specs.declared.Spot.{Spot}
-use Rattle.bodies.specs.Tests.{andThen}
+use Rattle.checks.specs.Tests.{andThen}
 use Rattle.bodies.specs.Bodies.{bodyOf}
-use Rattle.bodies.specs.declared.Verdict.{Verdict}
-use Rattle.bodies.specs.declared.Verdict.the-variants.{Fine, Fault}
-use Rattle.walk.specs.Turn.{Near, headerOf, walkOf, beginOf}
+use Rattle.checks.specs.declared.Verdict.{Verdict}
+use Rattle.checks.specs.declared.Verdict.the-variants.{Fine, Fault}
+use Rattle.turns.specs.Turn.{Near, headerOf}
+use Rattle.walk.specs.Turn.{walkOf, beginOf}
 use Rattle.walk.specs.declared.Begun.{Begun}
 use Rattle.walk.specs.declared.Walked.{Walked}
-use Rattle.walk.specs.declared.Stop.{Stop}
-use Rattle.walk.specs.declared.Stop.the-variants.{Wait as Wait′, Pause, Complete, Refused as Refused′}
-use Rattle.walk.proofs.Stop.{the-type}
-use Rattle.walk.proofs.NearLaws.{header-near, body-near}
+use Rattle.turns.specs.declared.Stop.{Stop}
+use Rattle.turns.specs.declared.Stop.the-variants.{Wait as Wait′, Pause, Complete, Refused as Refused′}
+use Rattle.turns.proofs.Stop.{the-type}
+use Rattle.walk.proofs.BegunLaws.{begun-walks}
+use Rattle.turns.proofs.NearLaws.{header-near, body-near}
 use Rattle.lines.specs.View.{leftOf, dataOf, pixelsFrom, shownOf, onVerdict, bareRefusal, foundIn, recordAt, lineAt, lineOf, behindFirst, firstOf, viewOf, shownBytes, pixelsOf}
 use Rattle.lines.proofs.View.{the-type as view-type}
 use Rattle.lines.specs.declared.View.{View}
@@ -53,24 +55,24 @@ found-near p k s r =
 pub part-is : (from long : ℕ) (bs : List ℕ) → take (from + long - from) (drop from bs) ≡ take long (drop from bs)
 part-is from long bs = ap (λ (n : ℕ). take n (drop from bs)) (let e : from + long - from ≡ long = omega arith in e)
 
-module _ (p : Plan) (k : ℕ) (s : Spot) (bs : List ℕ) where
-  pub at-short : length bs < s .start + s .length → lineAt p k s bs ≡ Wait (s .start + s .length - length bs)
+module _ (g : ℕ) (p : Plan) (k : ℕ) (s : Spot) (bs : List ℕ) where
+  pub at-short : length bs < s .start + s .length → lineAt g p k s bs ≡ Wait (s .start + s .length - length bs)
   unfolding lineAt
   at-short h = simp (lt-ltb _ _ h)
 
   pub at-whole : s .start + s .length ≤ length bs
-      → lineAt p k s bs ≡ onVerdict (foundIn p k s (recordAt s bs)) (k + 1) (s .start) (shownOf group p (s .start) (recordAt s bs))
+      → lineAt g p k s bs ≡ onVerdict (foundIn p k s (recordAt s bs)) (k + 1) (s .start) (shownOf g p (s .start) (recordAt s bs))
   unfolding lineAt
   at-whole h = simp (le-ltb _ _ h)
 
 -- ---- the line under a plan
 
-module _ (p : Plan) (k : ℕ) (bs : List ℕ) where
-  pub line-in : withinOf 1 k (p .n) ≡ true → lineOf p k bs ≡ lineAt p k (spotOf image p k) bs
+module _ (g : ℕ) (p : Plan) (k : ℕ) (bs : List ℕ) where
+  pub line-in : withinOf 1 k (p .n) ≡ true → lineOf g p k bs ≡ lineAt g p k (spotOf image p k) bs
   unfolding lineOf
   line-in e = simp e
 
-  pub line-out : withinOf 1 k (p .n) ≡ false → lineOf p k bs ≡ Refused (bareRefusal 13)
+  pub line-out : withinOf 1 k (p .n) ≡ false → lineOf g p k bs ≡ Refused (bareRefusal 13)
   unfolding lineOf
   line-out e = simp e
 
@@ -82,33 +84,33 @@ not-stopped Complete v a b = refl
 not-stopped (Refused′ r) v a b = absurd (⊎-elim (λ e. omega arith) (⊎-elim (λ e. omega arith) (λ e. omega arith)) b)
 
 -- the first record's walk, as the code has it, and the view by its stop
-module _ (bs : List ℕ) (k : ℕ) (b : Begun) (w : Walked) (begins : b ≡ beginOf image) (walks : w ≡ walkOf 1 (b .state) bs false) where
+module _ (bs : List ℕ) (b : Begun) (w : Walked) (begins : b ≡ beginOf image) (walks : w ≡ walkOf 1 (b .state) bs false) where
   pub first-is : w ≡ firstOf bs
-  unfolding beginOf
-  first-is = walks ∙ ap (λ (x : Begun). walkOf 1 (x .state) bs false) begins
+  first-is = begun-walks image 1 bs false refl b w begins walks
 
-  view-is : viewOf bs k ≡ behindFirst (w .stop) (lineOf (w .state .plan) k bs)
-  unfolding viewOf
-  view-is = ap (λ (x : Walked). behindFirst (x .stop) (lineOf (x .state .plan) k bs)) (sym first-is)
+  module _ (g k : ℕ) where
+    view-is : viewOf g bs k ≡ behindFirst (w .stop) (lineOf g (w .state .plan) k bs)
+    unfolding viewOf
+    view-is = ap (λ (x : Walked). behindFirst (x .stop) (lineOf g (x .state .plan) k bs)) (sym first-is)
 
-  pub view-wait : (n : ℕ) → w .stop ≡ Wait′ n → Wait n ≡ viewOf bs k
-  view-wait n e = sym (view-is ∙ ap (λ (x : Stop). behindFirst x (lineOf (w .state .plan) k bs)) e)
+    pub view-wait : (n : ℕ) → w .stop ≡ Wait′ n → Wait n ≡ viewOf g bs k
+    view-wait n e = sym (view-is ∙ ap (λ (x : Stop). behindFirst x (lineOf g (w .state .plan) k bs)) e)
 
-  pub view-refused : (r : Refusal) → w .stop ≡ Refused′ r → Refused r ≡ viewOf bs k
-  view-refused r e = sym (view-is ∙ ap (λ (x : Stop). behindFirst x (lineOf (w .state .plan) k bs)) e)
+    pub view-refused : (r : Refusal) → w .stop ≡ Refused′ r → Refused r ≡ viewOf g bs k
+    view-refused r e = sym (view-is ∙ ap (λ (x : Stop). behindFirst x (lineOf g (w .state .plan) k bs)) e)
 
-  pub view-behind : OneOf (1 ∷ 2 ∷ 3 ∷ []) (tagOf the-type (w .stop)) → OneOf (0 ∷ 1 ∷ 2 ∷ []) (tagOf the-type (w .stop)) → (v : View)
-      → v ≡ lineOf (w .state .plan) k bs → v ≡ viewOf bs k
-  view-behind a c v e = e ∙ sym (view-is ∙ not-stopped (w .stop) (lineOf (w .state .plan) k bs) a c)
+    pub view-behind : OneOf (1 ∷ 2 ∷ 3 ∷ []) (tagOf the-type (w .stop)) → OneOf (0 ∷ 1 ∷ 2 ∷ []) (tagOf the-type (w .stop)) → (v : View)
+        → v ≡ lineOf g (w .state .plan) k bs → v ≡ viewOf g bs k
+    view-behind a c v e = e ∙ sym (view-is ∙ not-stopped (w .stop) (lineOf g (w .state .plan) k bs) a c)
 
 -- ---- and back: a line that is shown
 
 -- each test of a line that is shown
-pub record Seen (p : Plan) (k : ℕ) (s : Spot) (bs : List ℕ) (start count left : ℕ) : Type 0 where
+pub record Seen (g : ℕ) (p : Plan) (k : ℕ) (s : Spot) (bs : List ℕ) (start count left : ℕ) : Type 0 where
   pub inside : withinOf 1 k (p .n) ≡ true
   pub whole : s .start + s .length ≤ length bs
   pub fine : foundIn p k s (recordAt s bs) ≡ Fine
-  pub starts : start ≡ s .start + pixelsFrom p + group * leftOf (recordAt s bs)
+  pub starts : start ≡ s .start + pixelsFrom p + g * leftOf (recordAt s bs)
   pub counts : count ≡ dataOf (recordAt s bs)
   pub lefts : left ≡ leftOf (recordAt s bs)
 
@@ -133,8 +135,8 @@ fill (Shown a b c) = c
 fill (Wait n) = 0
 fill (Refused r) = 0
 
-module _ (p : Plan) (k : ℕ) (bs : List ℕ) (start count left : ℕ) where
-  pub line-seen : lineOf p k bs ≡ Shown start count left → Seen p k (spotOf image p k) bs start count left
+module _ (g : ℕ) (p : Plan) (k : ℕ) (bs : List ℕ) (start count left : ℕ) where
+  pub line-seen : lineOf g p k bs ≡ Shown start count left → Seen g p k (spotOf image p k) bs start count left
   unfolding lineOf lineAt shownOf place number fill
   line-seen e = go (withinOf 1 k (p .n)) refl (ltb (length bs) (spotOf image p k .start + spotOf image p k .length)) refl (foundIn p k (spotOf image p k) (recordAt (spotOf image p k) bs)) refl e
     where
@@ -142,28 +144,28 @@ module _ (p : Plan) (k : ℕ) (bs : List ℕ) (start count left : ℕ) where
           → (v : Verdict) → foundIn p k (spotOf image p k) (recordAt (spotOf image p k) bs) ≡ v
           → pick a
           (pick b (Wait (spotOf image p k .start + spotOf image p k .length - length bs))
-          (onVerdict v (k + 1) (spotOf image p k .start) (shownOf group p (spotOf image p k .start) (recordAt (spotOf image p k) bs))))
+          (onVerdict v (k + 1) (spotOf image p k .start) (shownOf g p (spotOf image p k .start) (recordAt (spotOf image p k) bs))))
           (Refused (bareRefusal 13)) ≡ Shown start count left
-          → Seen p k (spotOf image p k) bs start count left
+          → Seen g p k (spotOf image p k) bs start count left
       go false ea b eb v ev e = absurd (refused≢shown _ _ _ _ e)
       go true ea true eb v ev e = absurd (wait≢shown _ _ _ _ e)
       go true ea false eb (Fault n at) ev e = absurd (refused≢shown _ _ _ _ e)
       go true ea false eb Fine ev e =
           record { inside = ea; whole = ltb-false _ _ eb; fine = ev; starts = sym (ap place e); counts = sym (ap number e); lefts = sym (ap fill e) }
 
-  pub seen-line : Seen p k (spotOf image p k) bs start count left → lineOf p k bs ≡ Shown start count left
+  pub seen-line : Seen g p k (spotOf image p k) bs start count left → lineOf g p k bs ≡ Shown start count left
   unfolding shownOf
   seen-line q =
-      line-in p k bs (q .inside) ∙ at-whole p k (spotOf image p k) bs (q .whole)
-      ∙ ap (λ (v : Verdict). onVerdict v (k + 1) (spotOf image p k .start) (shownOf group p (spotOf image p k .start) (recordAt (spotOf image p k) bs))) (q .fine)
+      line-in g p k bs (q .inside) ∙ at-whole g p k (spotOf image p k) bs (q .whole)
+      ∙ ap (λ (v : Verdict). onVerdict v (k + 1) (spotOf image p k .start) (shownOf g p (spotOf image p k .start) (recordAt (spotOf image p k) bs))) (q .fine)
       ∙ rw (q .starts, q .counts, q .lefts)
 
 -- a view that shows a line shows it under the first record's plan
-pub view-line : (bs : List ℕ) (k start count left : ℕ) → viewOf bs k ≡ Shown start count left → lineOf (firstOf bs .state .plan) k bs ≡ Shown start count left
+pub view-line : (g : ℕ) (bs : List ℕ) (k start count left : ℕ) → viewOf g bs k ≡ Shown start count left → lineOf g (firstOf bs .state .plan) k bs ≡ Shown start count left
 unfolding viewOf
-view-line bs k start count left e = go (firstOf bs .stop) e
+view-line g bs k start count left e = go (firstOf bs .stop) e
   where
-    go : (x : Stop) → behindFirst x (lineOf (firstOf bs .state .plan) k bs) ≡ Shown start count left → lineOf (firstOf bs .state .plan) k bs ≡ Shown start count left
+    go : (x : Stop) → behindFirst x (lineOf g (firstOf bs .state .plan) k bs) ≡ Shown start count left → lineOf g (firstOf bs .state .plan) k bs ≡ Shown start count left
     go (Wait′ n) e = absurd (wait≢shown _ _ _ _ e)
     go Pause e = e
     go Complete e = e
@@ -171,19 +173,19 @@ view-line bs k start count left e = go (firstOf bs .stop) e
 
 -- ---- the pixels handed back, by the view
 
-module _ (bs : List ℕ) (k : ℕ) (v : View) (sees : v ≡ viewOf bs k) where
-  pixels-are : pixelsOf bs k ≡ shownBytes group v bs
+module _ (g : ℕ) (bs : List ℕ) (k : ℕ) (v : View) (sees : v ≡ viewOf g bs k) where
+  pixels-are : pixelsOf g bs k ≡ shownBytes g v bs
   unfolding pixelsOf
-  pixels-are = ap (λ (x : View). shownBytes group x bs) (sym sees)
+  pixels-are = ap (λ (x : View). shownBytes g x bs) (sym sees)
 
-  pub pixels-none : OneOf (1 ∷ 2 ∷ []) (tagOf view-type v) → _≡_ {A = List ℕ} [] (pixelsOf bs k)
+  pub pixels-none : OneOf (1 ∷ 2 ∷ []) (tagOf view-type v) → _≡_ {A = List ℕ} [] (pixelsOf g bs k)
   pixels-none o = sym (pixels-are ∙ none v o)
     where
-      none : (x : View) → OneOf (1 ∷ 2 ∷ []) (tagOf view-type x) → shownBytes group x bs ≡ []
+      none : (x : View) → OneOf (1 ∷ 2 ∷ []) (tagOf view-type x) → shownBytes g x bs ≡ []
       none (Shown a b c) o = absurd (⊎-elim (λ e. omega arith) (λ e. omega arith) o)
       none (Wait n) o = refl
       none (Refused r) o = refl
 
-  pub pixels-shown : (start count left : ℕ) → v ≡ Shown start count left → take (start + group * count - start) (drop start bs) ≡ pixelsOf bs k
+  pub pixels-shown : (start count left : ℕ) → v ≡ Shown start count left → take (start + g * count - start) (drop start bs) ≡ pixelsOf g bs k
   pixels-shown start count left e =
-      part-is start (group * count) bs ∙ sym (pixels-are ∙ ap (λ (x : View). shownBytes group x bs) e)
+      part-is start (g * count) bs ∙ sym (pixels-are ∙ ap (λ (x : View). shownBytes g x bs) e)

@@ -34,8 +34,8 @@ rowBy (Refused r) bs row = row
 
 -- the answer of the row copy, for a row of m samples
 unfoldable pub copiedOf : List ℕ → ℕ → ℕ → Copied
-copiedOf bs k m = copiedBy (viewOf bs k) m
+copiedOf bs k m = copiedBy (viewOf group bs k) m
 
 -- the row behind it
 unfoldable pub rowOf : List ℕ → ℕ → List ℕ → List ℕ
-rowOf bs k row = rowBy (viewOf bs k) bs row
+rowOf bs k row = rowBy (viewOf group bs k) bs row

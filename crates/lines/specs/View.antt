@@ -1,5 +1,5 @@
--- The line view of an image prefix held from byte 0 (document 01, "Lines, rows, sets"), in that page's order. Bytes a pixel are a parameter
--- `g` of what is shown: `group` today. Assumes nothing.
+-- The line view of an image prefix held from byte 0 (document 01, "Lines, rows, sets"), in that page's order. Bytes a sample are a parameter
+-- `g` throughout; the contracts say `group`. Assumes nothing.
 use Prim.Native.Nat.{ℕ, _+_, _-_, _*_, _≤_}
 use mathlib.Core.Path.{_≡_}
 use mathlib.Core.List.{List, []}
@@ -9,17 +9,18 @@ use lib.ListN.{length, take, drop}
 use Rattle.words.specs.Tests.{pick, withinOf}
 use Rattle.words.specs.Words.{fourAt, placeOf}
 use Rattle.words.specs.declared.Refusal.{Refusal}
-use Rattle.plan.specs.Plan.{image, group, ahead, spotOf, codesOf, runCounts, runLengths, Small}
+use Rattle.plan.specs.Plan.{image, ahead, spotOf, codesOf, runCounts, runLengths, Small}
 use Rattle.plan.specs.declared.Plan.{Plan}
 use Rattle.plan.specs.declared.Spot.{Spot}
-use Rattle.bodies.specs.Tests.{andThen}
+use Rattle.checks.specs.Tests.{andThen}
 use Rattle.bodies.specs.Bodies.{bodyOf}
-use Rattle.bodies.specs.declared.Verdict.{Verdict}
-use Rattle.bodies.specs.declared.Verdict.the-variants.{Fine, Fault}
+use Rattle.checks.specs.declared.Verdict.{Verdict}
+use Rattle.checks.specs.declared.Verdict.the-variants.{Fine, Fault}
 use Rattle.walk.specs.Rule.{fresh}
-use Rattle.walk.specs.Turn.{headerOf, walkOf}
-use Rattle.walk.specs.declared.Stop.{Stop}
-use Rattle.walk.specs.declared.Stop.the-variants.{Wait as Wait′, Pause, Complete, Refused as Refused′}
+use Rattle.turns.specs.Turn.{headerOf}
+use Rattle.walk.specs.Turn.{walkOf}
+use Rattle.turns.specs.declared.Stop.{Stop}
+use Rattle.turns.specs.declared.Stop.the-variants.{Wait as Wait′, Pause, Complete, Refused as Refused′}
 use Rattle.walk.specs.declared.Walked.{Walked}
 use Rattle.lines.specs.declared.View.{View}
 use Rattle.lines.specs.declared.View.the-variants.{Shown, Wait, Refused}
@@ -57,14 +58,14 @@ abbrev pub recordAt : Spot → List ℕ → List ℕ
 recordAt s bs = take (s .length) (drop (s .start) bs)
 
 -- line k, which stands at that spot: wait for the bytes still missing to its record's end; then 3, 4, 5, 10
-unfoldable pub lineAt : Plan → ℕ → Spot → List ℕ → View
-lineAt p k s bs =
+unfoldable pub lineAt : ℕ → Plan → ℕ → Spot → List ℕ → View
+lineAt g p k s bs =
     pick (ltb (length bs) (s .start + s .length)) (Wait (s .start + s .length - length bs))
-    (onVerdict (foundIn p k s (recordAt s bs)) (k + 1) (s .start) (shownOf group p (s .start) (recordAt s bs)))
+    (onVerdict (foundIn p k s (recordAt s bs)) (k + 1) (s .start) (shownOf g p (s .start) (recordAt s bs)))
 
 -- 13; then the line
-unfoldable pub lineOf : Plan → ℕ → List ℕ → View
-lineOf p k bs = pick (withinOf 1 k (p .n)) (lineAt p k (spotOf image p k) bs) (Refused (bareRefusal 13))
+unfoldable pub lineOf : ℕ → Plan → ℕ → List ℕ → View
+lineOf g p k bs = pick (withinOf 1 k (p .n)) (lineAt g p k (spotOf image p k) bs) (Refused (bareRefusal 13))
 
 -- the first record's own wait or refusal; where it has passed, what follows
 abbrev pub behindFirst : Stop → View → View
@@ -78,8 +79,8 @@ abbrev pub firstOf : List ℕ → Walked
 firstOf bs = walkOf 1 (fresh image) bs false
 
 -- the line view: the first record, then the line under the plan that it names
-unfoldable pub viewOf : List ℕ → ℕ → View
-viewOf bs k = behindFirst (firstOf bs .stop) (lineOf (firstOf bs .state .plan) k bs)
+unfoldable pub viewOf : ℕ → List ℕ → ℕ → View
+viewOf g bs k = behindFirst (firstOf bs .stop) (lineOf g (firstOf bs .state .plan) k bs)
 
 -- the data pixels that a view shows of the bytes; none where nothing is shown
 abbrev pub shownBytes : ℕ → View → List ℕ → List ℕ
@@ -87,13 +88,13 @@ shownBytes g (Shown start count left) bs = take (g * count) (drop start bs)
 shownBytes g (Wait n) bs = []
 shownBytes g (Refused r) bs = []
 
-unfoldable pub pixelsOf : List ℕ → ℕ → List ℕ
-pixelsOf bs k = shownBytes group (viewOf bs k) bs
+unfoldable pub pixelsOf : ℕ → List ℕ → ℕ → List ℕ
+pixelsOf g bs k = shownBytes g (viewOf g bs k) bs
 
--- a plan whose lines can be placed: what a good state gives, so that nothing wraps
-pub record Lined (p : Plan) : Type 0 where
+-- a plan whose lines, of g bytes a sample, can be placed: what a good state gives at `group`, so that nothing wraps
+pub record Lined (g : ℕ) (p : Plan) : Type 0 where
   pub small : Small (runCounts image p) (runLengths image p)
   pub lines : p .n ≤ 999999
   pub long : p .l ≤ 99999999
   pub room : 1 ≤ p .n → ahead + p .d + p .s ≤ p .l
-  pub paired : 1 ≤ p .n → p .d ≡ group * p .w
+  pub paired : 1 ≤ p .n → p .d ≡ g * p .w

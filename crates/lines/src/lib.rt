@@ -1,16 +1,17 @@
 // What the page shows of an image that is held from byte 0 (document 01, "Lines, rows, sets"): the data
 // pixels of one line as a part of the caller's bytes, and their copy as 16-bit numbers. Earlier lines
 // are not read: a line's place follows from the plan.
-use bodies::Verdict;
+use checks::Verdict;
 use plan::Plan;
 use plan::Spot;
+use turns::Stop;
 use walk::State;
-use walk::Stop;
 use words::Refusal;
 ghost use mathlib.Core.Path.{_≡_};
 ghost use mathlib.Core.List.{_++_};
 ghost use Prim.Native.Nat.{_+_, _*_, _≤_};
 ghost use lib.ListN.{length, drop};
+ghost use Rattle.words.specs.Words.{twoAt};
 ghost use Rattle.plan.specs.Plan.{image, group, Spotted};
 ghost use Rattle.lines.specs.View.{pixelsFrom, shownOf, foundIn, lineAt, lineOf, viewOf, pixelsOf, bareRefusal, Lined};
 ghost use Rattle.lines.specs.Row.{samples, copiedOf, rowOf};
@@ -46,7 +47,7 @@ fn found(p: Plan, k: u64, s: Spot, r: &[u8]) -> Verdict
     requires { ⌜ k ≤ 999999 ⌝ }
     ensures { λ v. ⌜ v ≡ foundIn p k s (now (r .entry)) ⌝ }
 {
-    let h = walk::header(k + 1, plan::codes_of(plan::IMAGE, s.run), s.length, r);
+    let h = turns::header(k + 1, plan::codes_of(plan::IMAGE, s.run), s.length, r);
     let Verdict::Fine = h else {
         return h;
     };
@@ -75,8 +76,8 @@ fn shown(p: Plan, start: u64, r: &[u8]) -> View
 // Line k, which stands at that spot: wait for the bytes still missing to its record's end, then judge
 // that record alone.
 fn line_at(p: Plan, k: u64, s: Spot, bytes: &[u8]) -> View
-    requires { ⌜ Lined p × Spotted s × (k ≤ 999999) × (p .s + p .d ≤ p .l) ⌝ }
-    ensures { λ v. ⌜ v ≡ lineAt p k s (now (bytes .entry)) ⌝ }
+    requires { ⌜ Lined group p × Spotted s × (k ≤ 999999) × (p .s + p .d ≤ p .l) ⌝ }
+    ensures { λ v. ⌜ v ≡ lineAt group p k s (now (bytes .entry)) ⌝ }
 {
     let end = s.start + s.length;
     let len = bytes.len() as u64;
@@ -99,8 +100,8 @@ fn line_at(p: Plan, k: u64, s: Spot, bytes: &[u8]) -> View
 
 // Line k of an image with that plan, or 13.
 fn line(p: Plan, k: u64, bytes: &[u8]) -> View
-    requires { ⌜ Lined p ⌝ }
-    ensures { λ v. ⌜ v ≡ lineOf p k (now (bytes .entry)) ⌝ }
+    requires { ⌜ Lined group p ⌝ }
+    ensures { λ v. ⌜ v ≡ lineOf group p k (now (bytes .entry)) ⌝ }
 {
     if words::within(1, k, p.n) {
         return line_at(p, k, plan::spot_of(plan::IMAGE, p, k), bytes);
@@ -111,7 +112,7 @@ fn line(p: Plan, k: u64, bytes: &[u8]) -> View
 // The line view, asked of an image prefix held from byte 0: the first record as in the walk, open;
 // then line k. Asking for the last line costs no more than asking for the first.
 pub fn line_view(bytes: &[u8], k: u64) -> View
-    ensures { λ v. ⌜ v ≡ viewOf (now (bytes .entry)) k ⌝ }
+    ensures { λ v. ⌜ v ≡ viewOf group (now (bytes .entry)) k ⌝ }
 {
     let begun = State::none().begin(plan::IMAGE);
     let fresh = begun.state;
@@ -131,7 +132,7 @@ pub fn line_view(bytes: &[u8], k: u64) -> View
 // The line's data pixels, as the part of the caller's bytes that they are; empty where nothing is
 // shown.
 pub fn pixels(bytes: &[u8], k: u64) -> &[u8]
-    ensures { λ r. ⌜ now r ≡ pixelsOf (now (bytes .entry)) k ⌝ }
+    ensures { λ r. ⌜ now r ≡ pixelsOf group (now (bytes .entry)) k ⌝ }
 {
     let v = line_view(bytes, k);
     let View::Shown(start, count, _) = v else {
@@ -142,16 +143,42 @@ pub fn pixels(bytes: &[u8], k: u64) -> &[u8]
     &bytes[from..to]
 }
 
+// A sample of two bytes that are there, high byte first.
+fn sample(px: &[u8], at: usize) -> u16
+    requires { ⌜ at + 2 ≤ length (now px) ⌝ }
+    ensures { λ r. ⌜ r ≡ twoAt (now (px .entry)) at ⌝ }
+{
+    let high = px[at];
+    let low = px[at + 1];
+    high as u16 * 256 + low as u16
+}
+
+// Four samples a turn while four are left, and how many that made: for speed alone (docs/SPEED.md),
+// since the compiler takes one sample a turn to slow code.
+fn write_fours(px: &[u8], count: usize, row: &mut [u16]) -> usize
+    requires { ⌜ (group * count ≤ length (now px)) × (count ≤ length (now row)) ⌝ }
+    ensures { λ n. ⌜ n ≤ count ⌝ }
+    ensures { λ n. ⌜ now (row .exit) ≡ samples n (now (px .entry)) ++ drop n (now (row .entry)) ⌝ }
+{
+    let mut j = 0;
+    while 4 <= count - j {
+        row[j] = sample(px, 2 * j);
+        row[j + 1] = sample(px, 2 * j + 2);
+        row[j + 2] = sample(px, 2 * j + 4);
+        row[j + 3] = sample(px, 2 * j + 6);
+        j += 4;
+    }
+    j
+}
+
 // That many samples of two bytes, high byte first, to the row's start; later samples stay.
 fn write(px: &[u8], count: usize, row: &mut [u16])
     requires { ⌜ (group * count ≤ length (now px)) × (count ≤ length (now row)) ⌝ }
     ensures { λ _. ⌜ now (row .exit) ≡ samples count (now (px .entry)) ++ drop count (now (row .entry)) ⌝ }
 {
-    let mut j = 0;
+    let mut j = write_fours(px, count, row);
     while j < count {
-        let high = px[2 * j];
-        let low = px[2 * j + 1];
-        row[j] = high as u16 * 256 + low as u16;
+        row[j] = sample(px, 2 * j);
         j += 1;
     }
 }

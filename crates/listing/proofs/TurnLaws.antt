@@ -1,6 +1,6 @@
 -- One turn of the listing by its cases: too long, or what the walk by one record says.
 use Prim.Native.Nat.{ℕ}
-use mathlib.Core.Path.{_≡_, sym, ap, _∙_}
+use mathlib.Core.Path.{_≡_, refl, sym, ap, _∙_}
 use mathlib.Core.List.{List, []}
 use native.Mathlib.Omega.{arith}
 use mathlib.Core.Bool.{Bool, true, false}
@@ -12,13 +12,14 @@ use Rattle.walk.specs.Rule.{fresh}
 use Rattle.walk.specs.Turn.{walkOf, beginOf}
 use Rattle.plan.specs.Plan.{image}
 use Rattle.walk.specs.declared.Begun.{Begun}
+use Rattle.walk.proofs.BegunLaws.{begun-walks}
 use Rattle.walk.proofs.GoodLaws.{fresh-good}
 use Rattle.walk.proofs.LoopLaws.{walk-pause}
 use Rattle.walk.specs.declared.State.{State}
-use Rattle.walk.specs.declared.Stop.{Stop}
+use Rattle.turns.specs.declared.Stop.{Stop}
 use Rattle.walk.specs.declared.Walked.{Walked}
 use Rattle.listing.specs.Rows.{longest, passedRow, wanted, sayOf, tooLong, toldBy, toldOf}
-use Rattle.listing.specs.declared.Row.the-variants.{Image, Line, TooLong}
+use Rattle.rows.specs.declared.Row.the-variants.{Image, Line, TooLong}
 use Rattle.listing.specs.declared.Say.{Say}
 use Rattle.listing.specs.declared.Say.the-variants.{Last}
 
@@ -53,7 +54,7 @@ module _ (st : State) (held : List ℕ) (closed : Bool) where
   told-long e = sym (simp e)
 
   module _ (w : Walked) (short : tooLong st ≡ false) (walks : w ≡ walkOf 1 st held closed) where
-    told-is : toldOf st held closed ≡ record { state = w .state; say = sayOf st held (w .state) (w .stop) }
+    pub told-is : toldOf st held closed ≡ record { state = w .state; say = sayOf st held (w .state) (w .stop) }
     unfolding toldOf
     told-is = ap (λ (b : Bool). pick b (record { state = st; say = Last TooLong }) (toldBy st held (walkOf 1 st held closed))) short ∙ ap (toldBy st held) (sym walks)
 
@@ -63,6 +64,5 @@ module _ (st : State) (held : List ℕ) (closed : Bool) where
 
 -- a budget of 0 passes nothing
 pub begun-fresh : (b : Begun) (w : Walked) → b ≡ beginOf image → w ≡ walkOf 0 (b .state) [] false → w .state ≡ fresh image
-unfolding beginOf
 begun-fresh b w e q =
-    ap (λ (x : Walked). x .state) (q ∙ ap (λ (x : Begun). walkOf 0 (x .state) [] false) e ∙ walk-pause (fresh image) [] false (fresh-good image (omega arith) (omega arith)))
+    ap (λ (x : Walked). x .state) (begun-walks image 0 [] false refl b w e q ∙ walk-pause (fresh image) [] false (fresh-good image (omega arith) (omega arith)))

@@ -1,3 +1,2 @@
--- The specs of `listing`: what each row says, how it is spelt, and one turn of the listing.
+-- The specs of `listing`: what each row says, and one turn of the listing.
 pub mod Rows
-pub mod Text

@@ -8,11 +8,11 @@ use Rattle.words.specs.Words.{fourAt, placeOf}
 use Rattle.walk.specs.Rule.{startOf}
 use Rattle.walk.specs.Turn.{walkOf}
 use Rattle.walk.specs.declared.State.{State}
-use Rattle.walk.specs.declared.Stop.{Stop}
-use Rattle.walk.specs.declared.Stop.the-variants.{Wait, Pause, Complete as Complete′, Refused as Refused′}
+use Rattle.turns.specs.declared.Stop.{Stop}
+use Rattle.turns.specs.declared.Stop.the-variants.{Wait, Pause, Complete as Complete′, Refused as Refused′}
 use Rattle.walk.specs.declared.Walked.{Walked}
-use Rattle.listing.specs.declared.Row.{Row}
-use Rattle.listing.specs.declared.Row.the-variants.{Image, Line, TooLong, Complete, Refused}
+use Rattle.rows.specs.declared.Row.{Row}
+use Rattle.rows.specs.declared.Row.the-variants.{Image, Line, TooLong, Complete, Refused}
 use Rattle.listing.specs.declared.Say.{Say}
 use Rattle.listing.specs.declared.Say.the-variants.{Want, Next, Last}
 use Rattle.listing.specs.declared.Told.{Told}

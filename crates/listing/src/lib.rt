@@ -1,32 +1,19 @@
 // The listing of an image (document 01, "Lines, rows, sets"): standard input to rows. A turn says what
-// to print of the bytes held of the next record, or how many more it wants; what each row says and how
-// it is spelt is proved. The rest reads and writes, one record at a time.
+// to print of the bytes held of the next record, or how many more it wants; what each row says is proved
+// here, and how it is spelt in `rows`. The rest reads and writes, one record at a time.
 use plan::Plan;
+use rows::Row;
+use turns::Stop;
 use walk::State;
-use walk::Stop;
-use words::Refusal;
 ghost use mathlib.Core.Path.{_≡_};
-ghost use mathlib.Core.List.{_++_};
-ghost use Prim.Native.Nat.{_+_, _≤_};
-ghost use lib.ListN.{length, take};
-ghost use Rattle.io.specs.Counts.{Counts};
+ghost use Prim.Native.Nat.{_≤_};
+ghost use lib.ListN.{length};
 ghost use Rattle.plan.specs.Plan.{image};
 ghost use Rattle.walk.specs.Rule.{fresh};
 ghost use Rattle.listing.specs.Rows.{passedRow, wanted, tooLong, toldOf};
-ghost use Rattle.listing.specs.Text.{numeral, with, textOf};
 
 // The longest record that is held.
 const LONGEST: u64 = 32768;
-
-// A row of the listing: lines and pixels; a line's number and its left, data and right counts; L is
-// over 32,768; records and bytes; a refusal.
-pub enum Row {
-    Image(u64, u64),
-    Line(u64, u64, u64, u64),
-    TooLong,
-    Complete(u64, u64),
-    Refused(Refusal),
-}
 
 // What a turn says: so many more bytes are wanted; a row, and the listing goes on; its last row.
 pub enum Say {
@@ -119,66 +106,6 @@ pub fn turn(st: State, held: &[u8], closed: bool) -> Told
     }
 }
 
-// The text is put into the line behind what stands there, and the new end is answered.
-fn put(line: &mut [u8], at: usize, text: &[u8]) -> usize
-    requires { ⌜ at + length (now text) ≤ length (now line) ⌝ }
-    ensures { λ r. ⌜ take r (now (line .exit)) ≡ take at (now (line .entry)) ++ now (text .entry) ⌝ }
-    ensures { λ r. ⌜ r ≡ at + length (now (text .entry)) ⌝ }
-    ensures { λ r. ⌜ r ≤ length (now (line .exit)) ⌝ }
-{
-    let mut i = 0;
-    while i < text.len() {
-        line[at + i] = text[i];
-        i += 1;
-    }
-    at + i
-}
-
-// A word and a number behind what stands in the line. A number has at most 20 digits.
-fn part(line: &mut [u8], at: usize, word: &[u8], n: u64) -> usize
-    requires { ⌜ at + length (now word) + 20 ≤ length (now line) ⌝ }
-    ensures { λ r. ⌜ take r (now (line .exit)) ≡ with (take at (now (line .entry))) (now (word .entry)) n ⌝ }
-    ensures { λ r. ⌜ r ≤ at + length (now (word .entry)) + 20 ⌝ }
-{
-    let mut digits = [0u8; 20];
-    let k = io::decimal(n, &mut digits);
-    let from = put(line, at, word);
-    put(line, from, &digits[..k])
-}
-
-// The row as it is printed, to the start of the line; its length.
-pub fn spell(row: Row, line: &mut [u8; 96]) -> usize
-    ensures { λ r. ⌜ take r (now (line .exit)) ≡ textOf row ⌝ }
-    ensures { λ r. ⌜ Counts r (now (line .exit)) ⌝ }
-{
-    match row {
-        Row::Image(n, w) => {
-            let a = part(line, 0, b"IMAGE ", n);
-            let b = part(line, a, b" LINES ", w);
-            put(line, b, b" PIXELS\n")
-        }
-        Row::Line(k, left, data, right) => {
-            let a = part(line, 0, b"", k);
-            let b = part(line, a, b" ", left);
-            let c = part(line, b, b" ", data);
-            let d = part(line, c, b" ", right);
-            put(line, d, b"\n")
-        }
-        Row::TooLong => put(line, 0, b"RECORD TOO LONG\n"),
-        Row::Complete(r, n) => {
-            let a = part(line, 0, b"COMPLETE ", r);
-            let b = part(line, a, b" RECORDS ", n);
-            put(line, b, b" BYTES\n")
-        }
-        Row::Refused(x) => {
-            let a = part(line, 0, b"REFUSED ", x.number);
-            let b = part(line, a, b" RECORD ", x.record);
-            let c = part(line, b, b" AT ", x.place);
-            put(line, c, b"\n")
-        }
-    }
-}
-
 // Where the listing stands: the state, how many bytes of the next record are held, whether the input
 // has ended, and whether to go on.
 struct Going {
@@ -198,7 +125,7 @@ fn fail(errors: i32, what: &[u8]) {
 // A row is printed; whether it could be.
 fn print(row: Row, output: i32, errors: i32) -> bool {
     let mut line = [0u8; 96];
-    let n = spell(row, &mut line);
+    let n = rows::spell(row, &mut line);
     if io::write_all(output, &line[..n]) {
         return true;
     }

@@ -1,14 +1,14 @@
 -- What the definitions of codes and lengths say in each of their cases, by computing their tests.
-use Prim.Native.Nat.{ℕ, zero, suc, _+_, _-_, _≤_}
+use Prim.Native.Nat.{ℕ, zero, suc, _+_, _-_, _*_, _≤_, _<_}
 use mathlib.Core.Path.{_≡_, refl}
 use native.Mathlib.Omega.{arith}
 use lib.ListN.{length, List·getD-eq-default}
-use borrow.Author.Tests.{eq-eqb, ne-eqb}
+use borrow.Author.Tests.{eq-eqb, ne-eqb, lt-ltb}
 use Rattle.plan.specs.Tables.{slot, slots, slotOf, codes, others, otherCodes}
 use mathlib.Core.Bool.{Bool, true, false}
 use lib.Dec.{eqb}
 use Rattle.words.specs.Tests.{pick}
-use Rattle.plan.specs.Plan.{volume, leader, codesOf, firstLength, runCounts, runLengths, spotFrom, spotOf}
+use Rattle.plan.specs.Plan.{volume, leader, image, codesOf, firstLength, runCounts, runLengths, sumOf, totalOf, spotFrom, spotOf}
 use Rattle.plan.specs.declared.Plan.{Plan}
 
 pub slot-none : (i : ℕ) → 17 ≤ i → slotOf i ≡ slot 0 0 0 0 0
@@ -61,3 +61,13 @@ module _ (kind : ℕ) where
     unfolding spotOf
     spot-later zero n = absurd (n refl)
     spot-later (suc k) n = let d : suc k - 1 ≡ k = omega arith in rw d
+
+-- line k's record: the run of lines, L bytes, behind the first record and the lines before it
+pub line-spot : (p : Plan) (k : ℕ) → k < p .n → spotOf image p (suc k) ≡ record { run = 1; length = p .l; start = 720 + k * p .l }
+unfolding spotOf spotFrom runCounts runLengths firstLength
+line-spot p k h = simp (lt-ltb _ _ h)
+
+-- an image's records: the first, and its lines
+pub image-total : (p : Plan) → totalOf image p ≡ suc (p .n)
+unfolding totalOf sumOf runCounts
+image-total p = omega arith

@@ -1,18 +1,18 @@
 -- The plans that the rules allow, one step at a time: numbers that are all 0, slots one after the other, and the image's tests in any order.
-use Prim.Native.Nat.{ℕ, zero, suc, _+_, _-_, _≤_, _<_}
+use Prim.Native.Nat.{ℕ, zero, suc, _+_, _-_, _*_, _≤_, _<_}
 use mathlib.Core.Path.{_≡_, ap, _∙_}
 use mathlib.Core.List.{List}
 use mathlib.Core.Bool.{Bool, true, false}
 use native.Mathlib.Numerals.{add-one}
 use native.Mathlib.Omega.{arith}
-use lib.Dec.{eqb}
+use lib.Dec.{eqb, leb}
 use lib.ListN.{length, getD, drop, drop-of-length-le}
 use lib.Seq.{drop-cons}
-use borrow.Author.Tests.{eq-eqb, ne-eqb}
+use borrow.Author.Tests.{eq-eqb, ne-eqb, eqb-true, leb-true}
 use Rattle.words.specs.Tests.{bothOf, withinOf}
 use Rattle.words.proofs.Laws.{both-false, both-l, both-r, within-true}
 use Rattle.plan.specs.Tables.{slotOf}
-use Rattle.plan.specs.Plan.{volume, leader, image, trailer, allZero, slotsZero?, slotGood, slotsGood, volumeGood, leaderGood, imageGood, imageRanges, imageAgrees, zeroPlan?, planGood}
+use Rattle.plan.specs.Plan.{volume, leader, image, trailer, group, ahead, allZero, slotsZero?, slotGood, slotsGood, volumeGood, leaderGood, imageGood, imageRanges, imageAgrees, zeroPlan?, planGood}
 use Rattle.plan.specs.declared.Plan.{Plan}
 
 pub zero-at : (a : List ℕ) (i : ℕ) → i < length a → allZero (drop i a) ≡ bothOf (eqb (getD a i 0) 0) (allZero (drop (i + 1) a))
@@ -89,3 +89,19 @@ image-bounds p e =
       within-true 1 (p .n) 999999 (both-l (withinOf 1 (p .n) 999999) _ e) .1,
       within-true 1 (p .l) 999999 (both-l (withinOf 1 (p .l) 999999) _ a) .1,
     )
+
+-- an image's ranges and agreements
+module _ (p : Plan) (g : planGood image p ≡ true) where
+  image-parts : bothOf (imageRanges p) (imageAgrees p) ≡ true
+  unfolding planGood imageGood
+  image-parts = both-r (bothOf (eqb (p .pointers) 0) (slotsZero? p)) (bothOf (imageRanges p) (imageAgrees p)) g
+
+  pub image-within : imageRanges p ≡ true
+  image-within = both-l (imageRanges p) (imageAgrees p) image-parts
+
+  pub image-agrees : (p .d ≡ group * p .w) × (ahead + p .d + p .s ≤ p .l)
+  image-agrees =
+      let a = both-r (imageRanges p) (imageAgrees p) image-parts in (
+        eqb-true _ _ (both-l (eqb (p .d) (group * p .w)) (leb (ahead + p .d + p .s) (p .l)) a),
+        leb-true _ _ (both-r (eqb (p .d) (group * p .w)) (leb (ahead + p .d + p .s) (p .l)) a),
+      )

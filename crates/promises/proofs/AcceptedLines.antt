@@ -25,8 +25,11 @@ accepted-lines bs a (suc j) l h =
     ∙ q .part in
     record {
       first = subst (λ (x : List ℕ). ImageDescriptor x p) (sym (ap (take 720) (sym (a .are)) ∙ take-at (a .first) (concat (a .rest)) 720 size)) (a .begins);
-      least = l;
-      most = h;
-      is = subst (Record (suc (suc j)) (d .Codes) (p .l)) (sym r) (subst (λ (o : ℕ). Record (suc o) (d .Codes) (p .l) (getD (a .rest) j [])) one (q .is));
-      holds = subst (Line (p .w) (suc j)) (sym r) (subst (λ (o : ℕ). Line (p .w) o (getD (a .rest) j [])) one (q .holds));
+      line =
+          record {
+            least = l;
+            most = h;
+            is = subst (Record (suc (suc j)) (d .Codes) (p .l)) (sym r) (subst (λ (o : ℕ). Record (suc o) (d .Codes) (p .l) (getD (a .rest) j [])) one (q .is));
+            holds = subst (Line (p .w) (suc j)) (sym r) (subst (λ (o : ℕ). Line (p .w) o (getD (a .rest) j [])) one (q .holds));
+          };
     }

@@ -13,17 +13,19 @@ use Rattle.words.specs.Tests.{withinOf}
 use Rattle.words.proofs.Laws.{both-make, within-true}
 use Rattle.plan.specs.Plan.{firstLength, totalOf, spotOf, planGood, zeroPlan}
 use Rattle.plan.specs.declared.Plan.{Plan}
-use Rattle.bodies.specs.Named.{planOf, countsOf, lengthsOf}
+use Rattle.leader.specs.Leader.{countsOf, lengthsOf}
+use Rattle.bodies.specs.Named.{planOf}
 use Rattle.bodies.proofs.First.{first-good}
 use Rattle.walk.specs.Rule.{fresh, goodState, nextSpot}
 use Rattle.walk.specs.Turn.{turnOf, nextOf, walkOf}
 use Rattle.walk.specs.declared.State.{State}
-use Rattle.walk.specs.declared.Stop.the-variants.{Complete, Pause}
-use Rattle.walk.specs.declared.Turn.the-variants.{Pass, Halt}
+use Rattle.turns.specs.declared.Stop.the-variants.{Complete, Pause}
+use Rattle.turns.specs.declared.Turn.the-variants.{Pass, Halt}
 use Rattle.walk.specs.declared.Walked.{Walked}
 use Rattle.walk.proofs.GoodLaws.{good-some, fresh-good}
 use Rattle.walk.proofs.LoopLaws.{walk-pause}
-use Rattle.walk.proofs.TurnLaws.{pass-going, next-as-later}
+use Rattle.turns.proofs.TurnLaws.{one-total, pass-going}
+use Rattle.walk.proofs.TurnLaws.{next-as-later}
 use Rattle.promises.specs.Rules.{Kind, volume, leader, image, trailer, kindNumber, First, Due, promised, textRecord, Follow, concat, Accepted}
 use Rattle.promises.proofs.Passing.{complete-is, pass-is, Ends, now, later, ends-is}
 use Rattle.promises.proofs.FirstIs.{first-is, first-names, first-size, same-promised, Fault-free}
@@ -150,10 +152,6 @@ kind-low kind = within-true 1 (kindNumber kind) 4 (kind-known kind)
 
 pub good-fresh : (kind : Kind) → goodState (fresh (kindNumber kind)) ≡ true
 good-fresh kind = fresh-good (kindNumber kind) (kind-low kind .0) (kind-low kind .1)
-
-one-total : (kind : ℕ) (p : Plan) → 0 < totalOf kind p
-unfolding totalOf
-one-total kind p = omega arith
 
 module _ (kind : Kind) (bs : List ℕ) where
   -- as many bytes as a first record has, and the plan that they name

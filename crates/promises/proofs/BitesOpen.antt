@@ -10,11 +10,12 @@ use Rattle.words.specs.declared.Refusal.{Refusal}
 use Rattle.words.specs.Words.{twoAt, fourAt, placeOf}
 use Rattle.plan.specs.Tables.{slotOf, otherCodes}
 use Rattle.plan.specs.Plan.{totalOf, sumOf, runCounts, runLengths, firstLength, spotOf, codesOf, allZero, zeroPlan?}
-use Rattle.bodies.specs.Tests.{firstFault}
+use Rattle.checks.specs.Tests.{firstFault}
 use Rattle.bodies.specs.Named.{planOf}
 use Rattle.walk.specs.Rule.{fresh, goodState}
-use Rattle.walk.specs.Turn.{walkOf, judgeOf, headerOf, headerTests}
-use Rattle.walk.specs.declared.Stop.the-variants.{Wait, Pause, Complete, Refused}
+use Rattle.turns.specs.Turn.{judgeOf, headerOf, headerTests}
+use Rattle.walk.specs.Turn.{walkOf}
+use Rattle.turns.specs.declared.Stop.the-variants.{Wait, Pause, Complete, Refused}
 use Rattle.promises.specs.Rules.{Kind, trailer, kindNumber}
 use Rattle.promises.specs.Arriving.{Own, begun, Starts, Waits, Refuses, AtRecordEnd}
 use Rattle.promises.specs.Bytes.{Bytes}

@@ -8,12 +8,16 @@ use Rattle.words.specs.Words.{twoAt, fourAt, placeOf}
 use Rattle.decimal.specs.Scan.{written, decimalOf, numberOf, mantissaOf, exponentOf}
 use Rattle.fields.specs.Field.{fieldAt}
 use Rattle.plan.specs.Tables.{slotOf, otherCodes}
-use Rattle.plan.specs.Plan.{totalOf, sumOf, runCounts, runLengths, firstLength, spotOf, spotFrom, codesOf, allZero, zeroPlan?, planGood, imageGood, volumeGood, leaderGood, slotsGood}
-use Rattle.bodies.specs.Tests.{firstFault, textAt}
-use Rattle.bodies.specs.Bodies.{bodyOf, bodyTests, imageRecord, imageTests, numbersTests, agreements, lineTests, volumeRecord, leaderRecord, trailerTests}
+use Rattle.plan.specs.Plan.{group, totalOf, sumOf, runCounts, runLengths, firstLength, spotOf, spotFrom, codesOf, allZero, zeroPlan?, planGood, imageGood, volumeGood, leaderGood, slotsGood}
+use Rattle.checks.specs.Tests.{firstFault, textAt}
+use Rattle.checks.specs.Parts.{numbersTests}
+use Rattle.leader.specs.Leader.{leaderRecord}
+use Rattle.image.specs.Image.{imageRecord, imageTests, agreements, lineTests}
+use Rattle.bodies.specs.Bodies.{bodyOf, bodyTests, volumeRecord, trailerTests}
 use Rattle.bodies.specs.Named.{planOf}
 use Rattle.walk.specs.Rule.{goodState}
-use Rattle.walk.specs.Turn.{walkOf, judgeOf, headerOf, headerTests, codesAre, endedOf, shortOf, nextOf, badStop}
+use Rattle.turns.specs.Turn.{judgeOf, headerOf, headerTests, codesAre, endedOf, shortOf}
+use Rattle.walk.specs.Turn.{walkOf, nextOf, badStop}
 use Rattle.lines.specs.View.{shownOf, foundIn, lineAt, lineOf, viewOf}
 use Rattle.lines.specs.Row.{samplesFrom, rowOf}
 use Rattle.lines.specs.declared.View.the-variants.{Shown}
@@ -31,7 +35,7 @@ pub ours-keeps : Keeps copier
 ours-keeps = row-kept
 
 -- line 1 of the listed image: three pixels, all 0
-listed-shown : viewOf listed 1 ≡ Shown 912 3 0
+listed-shown : viewOf group listed 1 ≡ Shown 912 3 0
 unfolding written decimalOf numberOf mantissaOf exponentOf twoAt fourAt placeOf fieldAt slotOf otherCodes totalOf sumOf runCounts runLengths firstLength spotOf spotFrom codesOf allZero zeroPlan? planGood imageGood volumeGood leaderGood slotsGood firstFault textAt bodyOf bodyTests imageRecord imageTests numbersTests agreements lineTests volumeRecord leaderRecord trailerTests planOf goodState walkOf judgeOf headerOf headerTests codesAre endedOf shortOf nextOf badStop shownOf foundIn lineAt lineOf viewOf
 listed-shown = refl
 
@@ -41,10 +45,10 @@ listed-row = refl
 
 -- a row copy that writes nothing leaves the sevens
 pub copies-nothing : Copies idler → ⊥
-copies-nothing c = go (line-named listed 1 912 3 0 .0 listed-shown)
+copies-nothing c = go (line-named group listed 1 912 3 0 .0 listed-shown)
   where
-    go : LineShown listed 1 912 3 0 → ⊥
-    go (p, t, a, n, l) =
+    go : LineShown group listed 1 912 3 0 → ⊥
+    go (p, t, (a, n, l)) =
         let row : List ℕ = 7 ∷ 7 ∷ 7 ∷ [] in
         let his = c listed 1 p row t (omega arith) .1 0 (omega arith) in
         let ours = sample-named listed 1 p row t (omega arith) .1 0 (omega arith) in

@@ -15,19 +15,22 @@ use Rattle.plan.specs.Plan.{volume, leader, image, firstLength, totalOf, codesO
 use Rattle.plan.specs.declared.Plan.{Plan}
 use Rattle.plan.proofs.Bounds.{small-good, total-small}
 use Rattle.bodies.specs.Bodies.{bodyOf}
-use Rattle.bodies.specs.Named.{countsOf, lengthsOf, planOf}
-use Rattle.bodies.specs.declared.Verdict.the-variants.{Fine}
-use Rattle.bodies.specs.declared.Verdict.{Verdict}
+use Rattle.leader.specs.Leader.{countsOf, lengthsOf}
+use Rattle.bodies.specs.Named.{planOf}
+use Rattle.checks.specs.declared.Verdict.the-variants.{Fine}
+use Rattle.checks.specs.declared.Verdict.{Verdict}
 use Rattle.bodies.proofs.First.{first-good}
 use Rattle.walk.specs.Rule.{fresh, goodState, nextSpot}
-use Rattle.walk.specs.Turn.{onFine, endedOf, headerOf, turnOf, nextOf, walkOf}
+use Rattle.turns.specs.Turn.{onFine, endedOf, headerOf}
+use Rattle.walk.specs.Turn.{turnOf, nextOf, walkOf}
 use Rattle.walk.specs.declared.State.{State}
-use Rattle.walk.specs.declared.Stop.the-variants.{Complete}
-use Rattle.walk.specs.declared.Turn.the-variants.{Pass}
+use Rattle.turns.specs.declared.Stop.the-variants.{Complete}
+use Rattle.turns.specs.declared.Turn.the-variants.{Pass}
 use Rattle.walk.specs.declared.Walked.{Walked}
 use Rattle.walk.proofs.GoodLaws.{good-known, good-some, good-later, fresh-good}
 use Rattle.walk.proofs.LoopLaws.{walk-halt, walk-pass}
-use Rattle.walk.proofs.TurnLaws.{judge-ended, judge-body, next-as-first, next-as-later}
+use Rattle.turns.proofs.TurnLaws.{judge-ended, judge-body}
+use Rattle.walk.proofs.TurnLaws.{next-as-first, next-as-later}
 use Rattle.promises.specs.Bytes.{Bytes}
 use Rattle.promises.proofs.Turns.{turn-pass-stays, next-stays}
 use Rattle.promises.proofs.Made.{bytes-join}

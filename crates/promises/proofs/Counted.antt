@@ -9,8 +9,8 @@ use Rattle.words.specs.declared.Refusal.{Refusal}
 use Rattle.walk.specs.Rule.{goodState}
 use Rattle.walk.specs.Turn.{nextOf, badStop, walkOf}
 use Rattle.walk.specs.declared.State.{State}
-use Rattle.walk.specs.declared.Stop.the-variants.{Wait, Pause, Complete, Refused}
-use Rattle.walk.specs.declared.Turn.the-variants.{Halt}
+use Rattle.turns.specs.declared.Stop.the-variants.{Wait, Pause, Complete, Refused}
+use Rattle.turns.specs.declared.Turn.the-variants.{Halt}
 use Rattle.walk.proofs.LoopLaws.{walk-bad}
 use Rattle.promises.proofs.Steps.{by-turns}
 use Rattle.promises.proofs.Turns.{open-turn, turn-ordinal, never-pause, pause≢complete, pause≢refused, refused≢pause, refused≢complete, refused-same, wait≢refused, wait≢pause}

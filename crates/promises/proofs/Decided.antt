@@ -9,8 +9,8 @@ use native.Mathlib.Decide.{map-dec}
 use Rattle.plan.specs.Plan.{totalOf}
 use Rattle.walk.specs.Rule.{fresh}
 use Rattle.walk.specs.Turn.{walkOf}
-use Rattle.walk.specs.declared.Stop.{Stop}
-use Rattle.walk.specs.declared.Stop.the-variants.{Wait, Pause, Complete, Refused}
+use Rattle.turns.specs.declared.Stop.{Stop}
+use Rattle.turns.specs.declared.Stop.the-variants.{Wait, Pause, Complete, Refused}
 use Rattle.walk.specs.declared.Walked.{Walked}
 use Rattle.promises.specs.Rules.{Kind, kindNumber, Accepted}
 use Rattle.promises.proofs.Accepts.{planned, accepts}

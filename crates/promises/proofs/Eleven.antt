@@ -25,18 +25,22 @@ use Rattle.plan.specs.Tables.{slotOf}
 use Rattle.plan.specs.Plan.{volume, leader, image}
 use Rattle.plan.specs.declared.Codes.{Codes}
 use Rattle.plan.specs.declared.Plan.{Plan}
-use Rattle.bodies.specs.Tests.{Test, firstFault, each, unreadNumber, countTests, numberTests}
-use Rattle.bodies.specs.Bodies.{at, numbers, pairs, rowTests, numbersTests, pairTests, countAt, fieldsTests, listedTests, volumeTests, pointerTests, leaderTests, agreements, imageTests, lineTests, trailerTests, volumeRecord, leaderRecord, imageRecord, bodyTests, bodyOf}
-use Rattle.bodies.specs.declared.Number.{Number}
-use Rattle.bodies.specs.declared.Pair.{Pair}
-use Rattle.bodies.specs.declared.Verdict.{Verdict}
-use Rattle.bodies.specs.declared.Verdict.the-variants.{Fine, Fault}
+use Rattle.checks.specs.Tests.{Test, firstFault, each, unreadNumber, countTests, numberTests}
+use Rattle.checks.specs.Parts.{at, numbers, rowTests, numbersTests}
+use Rattle.leader.specs.Leader.{pairs, pairTests, countAt, fieldsTests, listedTests, leaderTests, leaderRecord}
+use Rattle.image.specs.Image.{agreements, imageTests, lineTests, imageRecord}
+use Rattle.bodies.specs.Bodies.{volumeTests, pointerTests, trailerTests, volumeRecord, bodyTests, bodyOf}
+use Rattle.checks.specs.declared.Number.{Number}
+use Rattle.leader.specs.declared.Pair.{Pair}
+use Rattle.checks.specs.declared.Verdict.{Verdict}
+use Rattle.checks.specs.declared.Verdict.the-variants.{Fine, Fault}
 use Rattle.walk.specs.Rule.{goodState}
-use Rattle.walk.specs.Turn.{refusedAt, headerTests, headerOf, turnOf, walkOf}
+use Rattle.turns.specs.Turn.{refusedAt, headerTests, headerOf}
+use Rattle.walk.specs.Turn.{turnOf, walkOf}
 use Rattle.walk.specs.declared.State.{State}
-use Rattle.walk.specs.declared.Stop.{Stop}
-use Rattle.walk.specs.declared.Stop.the-variants.{Wait, Complete, Refused}
-use Rattle.walk.specs.declared.Turn.the-variants.{Halt}
+use Rattle.turns.specs.declared.Stop.{Stop}
+use Rattle.turns.specs.declared.Stop.the-variants.{Wait, Complete, Refused}
+use Rattle.turns.specs.declared.Turn.the-variants.{Halt}
 use Rattle.walk.specs.declared.Walked.{Walked}
 use Rattle.walk.proofs.TurnLaws.{good-next}
 use Rattle.promises.proofs.Steps.{by-turns}

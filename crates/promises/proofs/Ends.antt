@@ -17,18 +17,19 @@ use Rattle.plan.specs.declared.Codes.{Codes}
 use Rattle.plan.specs.declared.Plan.{Plan}
 use Rattle.bodies.specs.Named.{planOf}
 use Rattle.bodies.specs.Bodies.{bodyOf}
-use Rattle.bodies.specs.declared.Verdict.{Verdict}
-use Rattle.bodies.specs.declared.Verdict.the-variants.{Fine, Fault}
-use Rattle.bodies.proofs.Holding.{fine-holds}
+use Rattle.checks.specs.declared.Verdict.{Verdict}
+use Rattle.checks.specs.declared.Verdict.the-variants.{Fine, Fault}
+use Rattle.checks.proofs.Holding.{fine-holds}
 use Rattle.walk.specs.Rule.{fresh, goodState, nextSpot, startOf}
-use Rattle.walk.specs.Turn.{refusedAt, endedOf, shortOf, onFine, headerTests, headerOf, judgeOf, turnOf, nextOf, stopped, more, badStop, walkOf}
+use Rattle.turns.specs.Turn.{refusedAt, endedOf, shortOf, onFine, headerTests, headerOf, judgeOf}
+use Rattle.walk.specs.Turn.{turnOf, nextOf, stopped, more, badStop, walkOf}
 use Rattle.walk.specs.declared.State.{State}
-use Rattle.walk.specs.declared.Stop.{Stop}
-use Rattle.walk.specs.declared.Stop.the-variants.{Wait, Pause, Complete, Refused}
-use Rattle.walk.specs.declared.Turn.{Turn}
-use Rattle.walk.specs.declared.Turn.the-variants.{Pass, Halt}
+use Rattle.turns.specs.declared.Stop.{Stop}
+use Rattle.turns.specs.declared.Stop.the-variants.{Wait, Pause, Complete, Refused}
+use Rattle.turns.specs.declared.Turn.{Turn}
+use Rattle.turns.specs.declared.Turn.the-variants.{Pass, Halt}
 use Rattle.walk.specs.declared.Walked.{Walked}
-use Rattle.walk.proofs.TurnLaws.{pass-parts, pass-long}
+use Rattle.turns.proofs.TurnLaws.{pass-parts, pass-long}
 use Rattle.promises.specs.Rules.{Kind, kindNumber, Accepted, concat}
 use Rattle.promises.specs.Pieces.{usedOf}
 use Rattle.promises.specs.Arriving.{Own, begun, again, Starts, Waits, Refuses, Chunks, AtRecordEnd}

@@ -10,7 +10,7 @@ use Rattle.plan.specs.Plan.{totalOf}
 use Rattle.walk.specs.Rule.{goodState, fresh}
 use Rattle.walk.specs.Turn.{walkOf}
 use Rattle.walk.specs.declared.State.{State}
-use Rattle.walk.specs.declared.Stop.the-variants.{Pause}
+use Rattle.turns.specs.declared.Stop.the-variants.{Pause}
 use Rattle.walk.specs.declared.Walked.{Walked}
 use Rattle.walk.proofs.GoodLaws.{good-later}
 use Rattle.promises.proofs.Turns.{refused≢pause}

@@ -13,10 +13,12 @@ use Rattle.decimal.specs.declared.Form.the-variants.{I4, I6, I8}
 use Rattle.plan.specs.Tables.{otherCodes}
 use Rattle.plan.specs.Plan.{codesOf}
 use Rattle.plan.specs.declared.Plan.{Plan}
-use Rattle.bodies.specs.Bodies.{at, number, numbers, numberAt, rowTests, numbersTests, agreements, bodyOf, bodyTests, imageRecord, imageTests}
-use Rattle.bodies.specs.declared.Verdict.the-variants.{Fine}
-use Rattle.bodies.proofs.Holding.{Holds, fine-holds, holds-fine, holds-split, holds-join, each-holds, number-holds}
-use Rattle.walk.specs.Turn.{headerOf}
+use Rattle.checks.specs.Parts.{at, number, numbers, numberAt, rowTests, numbersTests}
+use Rattle.image.specs.Image.{agreements, imageRecord, imageTests}
+use Rattle.bodies.specs.Bodies.{bodyOf, bodyTests}
+use Rattle.checks.specs.declared.Verdict.the-variants.{Fine}
+use Rattle.checks.proofs.Holding.{Holds, fine-holds, holds-fine, holds-split, holds-join, each-holds, number-holds}
+use Rattle.turns.specs.Turn.{headerOf}
 use Rattle.promises.specs.Rules.{ImageDescriptor}
 use Rattle.promises.proofs.Parts.{text-is, header-is, number-is}
 

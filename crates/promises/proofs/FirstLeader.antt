@@ -14,13 +14,13 @@ use Rattle.plan.specs.Tables.{otherCodes, slotOf}
 use Rattle.plan.specs.Plan.{codesOf}
 use Rattle.plan.specs.declared.Plan.{Plan}
 use Rattle.plan.specs.declared.Slot.{Slot}
-use Rattle.bodies.specs.Bodies.{pair, pairs, pairRow, pairTests, countAt, lengthAt, bodyOf, bodyTests, leaderRecord, leaderTests}
-use Rattle.bodies.specs.Named.{countsOf, lengthsOf}
-use Rattle.bodies.specs.declared.Pair as declared
-use Rattle.bodies.specs.declared.Verdict.the-variants.{Fine}
-use Rattle.bodies.proofs.Holding.{Holds, fine-holds, holds-fine, each-holds, holds-each}
-use Rattle.bodies.proofs.PairLaws.{length-none, count-in}
-use Rattle.walk.specs.Turn.{headerOf}
+use Rattle.leader.specs.Leader.{pair, pairs, pairRow, pairTests, countAt, lengthAt, leaderRecord, leaderTests, countsOf, lengthsOf}
+use Rattle.bodies.specs.Bodies.{bodyOf, bodyTests}
+use Rattle.leader.specs.declared.Pair as declared
+use Rattle.checks.specs.declared.Verdict.the-variants.{Fine}
+use Rattle.checks.proofs.Holding.{Holds, fine-holds, holds-fine, each-holds, holds-each}
+use Rattle.leader.proofs.PairLaws.{length-none, count-in}
+use Rattle.turns.specs.Turn.{headerOf}
 use Rattle.promises.specs.Rules.{Pair, NoSlot, Facility, LeaderDescriptor}
 use Rattle.promises.proofs.Each.{each-at}
 use Rattle.promises.proofs.Parts.{text-is, header-is, pair-is}

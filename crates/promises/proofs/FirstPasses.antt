@@ -10,8 +10,8 @@ use Rattle.plan.specs.declared.Plan.{Plan}
 use Rattle.walk.specs.Rule.{fresh, goodState, nextSpot}
 use Rattle.walk.specs.Turn.{turnOf, nextOf, walkOf}
 use Rattle.walk.specs.declared.State.{State}
-use Rattle.walk.specs.declared.Stop.the-variants.{Pause}
-use Rattle.walk.specs.declared.Turn.the-variants.{Pass}
+use Rattle.turns.specs.declared.Stop.the-variants.{Pause}
+use Rattle.turns.specs.declared.Turn.the-variants.{Pass}
 use Rattle.walk.specs.declared.Walked.{Walked}
 use Rattle.walk.proofs.LoopLaws.{walk-pause, walk-pass}
 use Rattle.walk.proofs.TurnLaws.{good-next}

@@ -11,9 +11,9 @@ use Rattle.plan.specs.Tables.{otherCodes}
 use Rattle.plan.specs.Plan.{codesOf}
 use Rattle.plan.specs.declared.Plan.{Plan}
 use Rattle.bodies.specs.Bodies.{bodyOf, bodyTests, trailerTests}
-use Rattle.bodies.specs.declared.Verdict.the-variants.{Fine}
-use Rattle.bodies.proofs.Holding.{fine-holds, holds-fine}
-use Rattle.walk.specs.Turn.{headerOf}
+use Rattle.checks.specs.declared.Verdict.the-variants.{Fine}
+use Rattle.checks.proofs.Holding.{fine-holds, holds-fine}
+use Rattle.turns.specs.Turn.{headerOf}
 use Rattle.promises.specs.Rules.{TrailerRecord}
 use Rattle.promises.proofs.Parts.{text-is, header-is}
 

@@ -11,10 +11,11 @@ use Rattle.decimal.specs.declared.Form.the-variants.{I4}
 use Rattle.plan.specs.Tables.{otherCodes}
 use Rattle.plan.specs.Plan.{codesOf}
 use Rattle.plan.specs.declared.Plan.{Plan}
-use Rattle.bodies.specs.Bodies.{numberAt, numbersTests, bodyOf, bodyTests, volumeRecord, volumeTests}
-use Rattle.bodies.specs.declared.Verdict.the-variants.{Fine}
-use Rattle.bodies.proofs.Holding.{fine-holds, holds-fine}
-use Rattle.walk.specs.Turn.{headerOf}
+use Rattle.checks.specs.Parts.{numberAt, numbersTests}
+use Rattle.bodies.specs.Bodies.{bodyOf, bodyTests, volumeRecord, volumeTests}
+use Rattle.checks.specs.declared.Verdict.the-variants.{Fine}
+use Rattle.checks.proofs.Holding.{fine-holds, holds-fine}
+use Rattle.turns.specs.Turn.{headerOf}
 use Rattle.promises.specs.Rules.{VolumeDescriptor}
 use Rattle.promises.proofs.Parts.{text-is, header-is, number-is}
 

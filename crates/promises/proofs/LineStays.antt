@@ -14,8 +14,8 @@ use Rattle.words.proofs.Laws.{cases}
 use Rattle.plan.specs.Plan.{image as image′, group, spotOf}
 use Rattle.plan.specs.declared.Plan.{Plan}
 use Rattle.walk.specs.Rule.{fresh}
-use Rattle.walk.specs.declared.Stop.{Stop}
-use Rattle.walk.specs.declared.Stop.the-variants.{Wait as Wait′, Pause, Complete, Refused as Refused′}
+use Rattle.turns.specs.declared.Stop.{Stop}
+use Rattle.turns.specs.declared.Stop.the-variants.{Wait as Wait′, Pause, Complete, Refused as Refused′}
 use Rattle.walk.specs.declared.State.{State}
 use Rattle.walk.specs.declared.Walked.{Walked}
 use Rattle.lines.specs.View.{foundIn, onVerdict, shownOf, lineOf, behindFirst, firstOf, viewOf, shownBytes, pixelsOf}
@@ -24,7 +24,7 @@ use Rattle.lines.specs.declared.View.{View}
 use Rattle.lines.specs.declared.View.the-variants.{Shown, Wait, Refused}
 use Rattle.lines.specs.declared.Copied.the-variants.{Wait as Wait″}
 use Rattle.lines.proofs.ViewLaws.{line-in, line-out, at-short, at-whole}
-use Rattle.lines.proofs.InsideLaws.{shown-within}
+use Rattle.lines.proofs.InsideLaws.{line-within, shown-within}
 use Rattle.promises.specs.Rules.{image}
 use Rattle.promises.proofs.Accepts.{good-fresh}
 use Rattle.promises.proofs.Counted.{open-never-complete, pause-counted}
@@ -46,60 +46,73 @@ first-stays bs ys e =
     ∙ ap (λ (x : State). record { state = x; count = 1; stop = Pause }) (next-stays st bs ys t)
     ∙ sym (one-turn st bs false (good-fresh image) t)
 
--- the line under a plan
-line-held : (p : Plan) (k : ℕ) (bs ys : List ℕ) → ((n : ℕ) → lineOf p k bs ≡ Wait n → ⊥) → lineOf p k (bs ++ ys) ≡ lineOf p k bs
-line-held p k bs ys settled = ⊎-elim inside (λ o. line-out p k (bs ++ ys) o ∙ sym (line-out p k bs o)) (cases (withinOf 1 k (p .n)))
+-- the line under any plan, whatever it was, if it was not a wait
+pub line-held : (g : ℕ) (p : Plan) (k : ℕ) (bs ys : List ℕ) → ((n : ℕ) → lineOf g p k bs ≡ Wait n → ⊥) → lineOf g p k (bs ++ ys) ≡ lineOf g p k bs
+line-held g p k bs ys settled = ⊎-elim inside (λ o. line-out g p k (bs ++ ys) o ∙ sym (line-out g p k bs o)) (cases (withinOf 1 k (p .n)))
   where
     whole : withinOf 1 k (p .n) ≡ true → spotOf image′ p k .start + spotOf image′ p k .length ≤ length bs
     whole i =
-        ⊎-elim (λ h. absurd (settled _ (line-in p k bs i ∙ at-short p k (spotOf image′ p k) bs (ltb-true _ _ h)))) (λ h. ltb-false _ _ h)
+        ⊎-elim (λ h. absurd (settled _ (line-in g p k bs i ∙ at-short g p k (spotOf image′ p k) bs (ltb-true _ _ h)))) (λ h. ltb-false _ _ h)
         (cases (ltb (length bs) (spotOf image′ p k .start + spotOf image′ p k .length)))
 
-    inside : withinOf 1 k (p .n) ≡ true → lineOf p k (bs ++ ys) ≡ lineOf p k bs
+    inside : withinOf 1 k (p .n) ≡ true → lineOf g p k (bs ++ ys) ≡ lineOf g p k bs
     inside i =
         let h = whole i in
         let x = spotOf image′ p k in
-        line-in p k (bs ++ ys) i
-        ∙ at-whole p k x (bs ++ ys) (omega (arith, length-append bs ys))
-        ∙ ap (λ (r : List ℕ). onVerdict (foundIn p k x r) (k + 1) (x .start) (shownOf group p (x .start) r)) (part-stays (x .start) (x .length) bs ys h)
-        ∙ sym (line-in p k bs i ∙ at-whole p k x bs h)
+        line-in g p k (bs ++ ys) i
+        ∙ at-whole g p k x (bs ++ ys) (omega (arith, length-append bs ys))
+        ∙ ap (λ (r : List ℕ). onVerdict (foundIn p k x r) (k + 1) (x .start) (shownOf g p (x .start) r)) (part-stays (x .start) (x .length) bs ys h)
+        ∙ sym (line-in g p k bs i ∙ at-whole g p k x bs h)
 
 -- the view: whatever it was, if it was not a wait
-pub line-stays : (bs ys : List ℕ) (k : ℕ) → ((n : ℕ) → viewOf bs k ≡ Wait n → ⊥) → viewOf (bs ++ ys) k ≡ viewOf bs k
+pub line-stays : (g : ℕ) (bs ys : List ℕ) (k : ℕ) → ((n : ℕ) → viewOf g bs k ≡ Wait n → ⊥) → viewOf g (bs ++ ys) k ≡ viewOf g bs k
 unfolding viewOf
-line-stays bs ys k settled = go (firstOf bs .stop) refl
+line-stays g bs ys k settled = go (firstOf bs .stop) refl
   where
-    by-first : firstOf (bs ++ ys) ≡ firstOf bs → behindFirst (firstOf (bs ++ ys) .stop) (lineOf (firstOf (bs ++ ys) .state .plan) k (bs ++ ys))
-        ≡ behindFirst (firstOf bs .stop) (lineOf (firstOf bs .state .plan) k (bs ++ ys))
-    by-first e = ap (λ (w : Walked). behindFirst (w .stop) (lineOf (w .state .plan) k (bs ++ ys))) e
+    by-first : firstOf (bs ++ ys) ≡ firstOf bs → behindFirst (firstOf (bs ++ ys) .stop) (lineOf g (firstOf (bs ++ ys) .state .plan) k (bs ++ ys))
+        ≡ behindFirst (firstOf bs .stop) (lineOf g (firstOf bs .state .plan) k (bs ++ ys))
+    by-first e = ap (λ (w : Walked). behindFirst (w .stop) (lineOf g (w .state .plan) k (bs ++ ys))) e
 
     by-stop : (x : Stop) (v : View) → firstOf bs .stop ≡ x → behindFirst (firstOf bs .stop) v ≡ behindFirst x v
     by-stop x v e = ap (λ (y : Stop). behindFirst y v) e
 
-    go : (x : Stop) → firstOf bs .stop ≡ x → behindFirst (firstOf (bs ++ ys) .stop) (lineOf (firstOf (bs ++ ys) .state .plan) k (bs ++ ys))
-        ≡ behindFirst (firstOf bs .stop) (lineOf (firstOf bs .state .plan) k bs)
-    go (Wait′ n) e = absurd (settled n (by-stop (Wait′ n) (lineOf (firstOf bs .state .plan) k bs) e))
+    go : (x : Stop) → firstOf bs .stop ≡ x → behindFirst (firstOf (bs ++ ys) .stop) (lineOf g (firstOf (bs ++ ys) .state .plan) k (bs ++ ys))
+        ≡ behindFirst (firstOf bs .stop) (lineOf g (firstOf bs .state .plan) k bs)
+    go (Wait′ n) e = absurd (settled n (by-stop (Wait′ n) (lineOf g (firstOf bs .state .plan) k bs) e))
     go Pause e =
-        by-first (first-stays bs ys e) ∙ by-stop Pause (lineOf (firstOf bs .state .plan) k (bs ++ ys)) e
-        ∙ line-held (firstOf bs .state .plan) k bs ys (λ n q. settled n (by-stop Pause (lineOf (firstOf bs .state .plan) k bs) e ∙ q))
-        ∙ sym (by-stop Pause (lineOf (firstOf bs .state .plan) k bs) e)
+        by-first (first-stays bs ys e) ∙ by-stop Pause (lineOf g (firstOf bs .state .plan) k (bs ++ ys)) e
+        ∙ line-held g (firstOf bs .state .plan) k bs ys (λ n q. settled n (by-stop Pause (lineOf g (firstOf bs .state .plan) k bs) e ∙ q))
+        ∙ sym (by-stop Pause (lineOf g (firstOf bs .state .plan) k bs) e)
     go Complete e = absurd (open-never-complete 1 (fresh image′) bs e)
     go (Refused′ r) e =
-        by-first (refusal-stays 1 (fresh image′) bs r e ys false 0) ∙ by-stop (Refused′ r) (lineOf (firstOf bs .state .plan) k (bs ++ ys)) e
-        ∙ sym (by-stop (Refused′ r) (lineOf (firstOf bs .state .plan) k bs) e)
+        by-first (refusal-stays 1 (fresh image′) bs r e ys false 0) ∙ by-stop (Refused′ r) (lineOf g (firstOf bs .state .plan) k (bs ++ ys)) e
+        ∙ sym (by-stop (Refused′ r) (lineOf g (firstOf bs .state .plan) k bs) e)
 
--- the bytes that a view shows
-shown-stays : (bs ys : List ℕ) (k : ℕ) (v : View) → viewOf bs k ≡ v → shownBytes group v (bs ++ ys) ≡ shownBytes group v bs
-shown-stays bs ys k (Shown start count left) e = part-stays start (group * count) bs ys (shown-within bs k start count left e)
-shown-stays bs ys k (Wait n) e = refl
-shown-stays bs ys k (Refused r) e = refl
+-- the bytes that a view shows, where they are held
+held-bytes : (g : ℕ) (v : View) (bs ys : List ℕ) → ((start count left : ℕ) → v ≡ Shown start count left → start + g * count ≤ length bs)
+    → shownBytes g v (bs ++ ys) ≡ shownBytes g v bs
+held-bytes g (Shown start count left) bs ys h = part-stays start (g * count) bs ys (h start count left refl)
+held-bytes g (Wait n) bs ys h = refl
+held-bytes g (Refused r) bs ys h = refl
 
-pub pixels-stay : (bs ys : List ℕ) (k : ℕ) → ((n : ℕ) → viewOf bs k ≡ Wait n → ⊥) → pixelsOf (bs ++ ys) k ≡ pixelsOf bs k
+-- under any plan whose pixels, of g bytes each, fill d, where d and the suffix fit L
+pub line-pixels-stay : (g : ℕ) (p : Plan) → p .d ≡ g * p .w → p .d + p .s ≤ p .l → (bs ys : List ℕ) (k : ℕ) → ((n : ℕ) → lineOf g p k bs ≡ Wait n → ⊥)
+    → shownBytes g (lineOf g p k (bs ++ ys)) (bs ++ ys) ≡ shownBytes g (lineOf g p k bs) bs
+line-pixels-stay g p paired room bs ys k settled =
+    ap (λ (v : View). shownBytes g v (bs ++ ys)) (line-held g p k bs ys settled)
+    ∙ held-bytes g (lineOf g p k bs) bs ys (λ start count left e. line-within g p paired room k bs start count left e)
+
+-- and so where d = 2w
+shown-stays : (bs ys : List ℕ) (k : ℕ) (v : View) → viewOf group bs k ≡ v → shownBytes group v (bs ++ ys) ≡ shownBytes group v bs
+shown-stays bs ys k v e = held-bytes group v bs ys (λ start count left q. shown-within bs k start count left (e ∙ q))
+
+pub pixels-stay : (bs ys : List ℕ) (k : ℕ) → ((n : ℕ) → viewOf group bs k ≡ Wait n → ⊥) → pixelsOf group (bs ++ ys) k ≡ pixelsOf group bs k
 unfolding pixelsOf
-pixels-stay bs ys k settled = ap (λ (v : View). shownBytes group v (bs ++ ys)) (line-stays bs ys k settled) ∙ shown-stays bs ys k (viewOf bs k) refl
+pixels-stay bs ys k settled =
+    ap (λ (v : View). shownBytes group v (bs ++ ys)) (line-stays group bs ys k settled) ∙ shown-stays bs ys k (viewOf group bs k) refl
 
 -- the copy, 15 included, and the row behind it
-row-held : (bs ys : List ℕ) (k : ℕ) (row : List ℕ) (v : View) → viewOf bs k ≡ v → rowBy v (bs ++ ys) row ≡ rowBy v bs row
+row-held : (bs ys : List ℕ) (k : ℕ) (row : List ℕ) (v : View) → viewOf group bs k ≡ v → rowBy v (bs ++ ys) row ≡ rowBy v bs row
 row-held bs ys k row (Shown start count left) e =
     ap (λ (px : List ℕ). pick (ltb (length row) count) row (samples count px ++ drop count row)) (shown-stays bs ys k (Shown start count left) e)
 row-held bs ys k row (Wait n) e = refl
@@ -109,7 +122,7 @@ pub copy-stays : (bs ys : List ℕ) (k : ℕ) (row : List ℕ) → ((n : ℕ) �
     → (copiedOf (bs ++ ys) k (length row) ≡ copiedOf bs k (length row)) × (rowOf (bs ++ ys) k row ≡ rowOf bs k row)
 unfolding copiedOf rowOf
 copy-stays bs ys k row settled =
-    let h = line-stays bs ys k (λ n e. settled n (ap (λ (v : View). copiedBy v (length row)) e)) in (
+    let h = line-stays group bs ys k (λ n e. settled n (ap (λ (v : View). copiedBy v (length row)) e)) in (
       ap (λ (v : View). copiedBy v (length row)) h,
-      ap (λ (v : View). rowBy v (bs ++ ys) row) h ∙ row-held bs ys k row (viewOf bs k) refl,
+      ap (λ (v : View). rowBy v (bs ++ ys) row) h ∙ row-held bs ys k row (viewOf group bs k) refl,
     )

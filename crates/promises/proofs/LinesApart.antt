@@ -1,6 +1,6 @@
 -- No two lines' pixels share a byte: each line's d bytes lie inside its own record, for every plan whose data and suffix fit L, and records lie end to end.
 use Prim.Native.Nat.{ℕ, suc, _+_, _-_, _*_, _≤_, _<_}
-use mathlib.Core.Path.{sym}
+use mathlib.Core.Path.{_≡_, sym}
 use mathlib.Core.List.{List}
 use mathlib.Core.Logic.{_≢_, ⊎-elim}
 use native.Mathlib.Omega.{arith}
@@ -10,8 +10,8 @@ use borrow.Author.Tests.{ltb-true, ltb-false}
 use Rattle.words.proofs.Laws.{cases}
 use Rattle.plan.specs.declared.Plan.{Plan}
 use Rattle.promises.specs.Rules.{ImageDescriptor}
-use Rattle.promises.specs.Shown.{lineStart, lineRecord, Pixel, Stands, dataCount, dataStart}
-use Rattle.promises.proofs.LineNamed.{stands-fits}
+use Rattle.promises.specs.Shown.{lineStart, lineRecord, Pixel, WholeLine, Stands, dataCount, dataStart}
+use Rattle.promises.proofs.LineNamed.{line-fits, stands-room}
 
 -- what goes before, the data and the suffix fit L
 module _ (ahead : ℕ) (p : Plan) (room : ahead + p .d + p .s ≤ p .l) where
@@ -39,7 +39,12 @@ lines-apart r p d = areas-apart 192 p (d .room)
 pub lines-inside : (r : List ℕ) (p : Plan) → ImageDescriptor r p → (k at : ℕ) → Pixel p k at → (lineStart p k + 192 ≤ at) × (at + p .s < lineStart p k + p .l)
 lines-inside r p d = pixel-inside 192 p (d .room)
 
--- the data pixels that are shown of a line are among its pixels
+-- the data pixels of a line that is whole are among its pixels, under any plan whose pixels, of g bytes each, fill d
+pub line-data : (g : ℕ) (bs : List ℕ) (k : ℕ) (p : Plan) → p .d ≡ g * p .w → p .d + p .s ≤ p .l → WholeLine bs k p → (i : ℕ) → i < g * dataCount (lineRecord p k bs)
+    → Pixel p k (dataStart g p k (lineRecord p k bs) + i)
+line-data g bs k p paired room t i h = let f = line-fits g bs k p paired room t in record { from = omega arith; to = omega arith }
+
+-- and so those that are shown of a line, where d = 2w
 pub data-are-pixels : (bs : List ℕ) (k : ℕ) (p : Plan) → Stands bs k p → (i : ℕ) → i < 2 * dataCount (lineRecord p k bs)
     → Pixel p k (dataStart 2 p k (lineRecord p k bs) + i)
-data-are-pixels bs k p t i h = let f = stands-fits bs k p t in let m = t .first .room in record { from = omega arith; to = omega arith }
+data-are-pixels bs k p t = line-data 2 bs k p (t .first .paired) (stands-room bs k p t) (t .line)

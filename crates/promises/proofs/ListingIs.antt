@@ -14,25 +14,29 @@ use Rattle.plan.specs.Plan.{image as image′, firstLength, totalOf, sumOf, run
 use Rattle.plan.specs.declared.Plan.{Plan}
 use Rattle.plan.specs.declared.Spot.{Spot}
 use Rattle.bodies.specs.Bodies.{bodyOf}
-use Rattle.bodies.specs.declared.Verdict.{Verdict}
-use Rattle.bodies.specs.declared.Verdict.the-variants.{Fine, Fault}
+use Rattle.checks.specs.declared.Verdict.{Verdict}
+use Rattle.checks.specs.declared.Verdict.the-variants.{Fine, Fault}
 use Rattle.walk.specs.Rule.{fresh, goodState, nextSpot}
-use Rattle.walk.specs.Turn.{refusedAt, endedOf, shortOf, onFine, headerOf, judgeOf, turnOf, nextOf, walkOf, more}
+use Rattle.turns.specs.Turn.{refusedAt, endedOf, shortOf, onFine, headerOf, judgeOf}
+use Rattle.walk.specs.Turn.{turnOf, nextOf, walkOf, more}
 use Rattle.walk.specs.declared.State.{State}
-use Rattle.walk.specs.declared.Stop.{Stop}
-use Rattle.walk.specs.declared.Stop.the-variants.{Wait, Pause, Complete as Complete′, Refused as Refused′}
-use Rattle.walk.specs.declared.Turn.{Turn}
-use Rattle.walk.specs.declared.Turn.the-variants.{Pass, Halt}
+use Rattle.turns.specs.declared.Stop.{Stop}
+use Rattle.turns.specs.declared.Stop.the-variants.{Wait, Pause, Complete as Complete′, Refused as Refused′}
+use Rattle.turns.specs.declared.Turn.{Turn}
+use Rattle.turns.specs.declared.Turn.the-variants.{Pass, Halt}
 use Rattle.walk.specs.declared.Walked.{Walked}
+use Rattle.walk.proofs.KeptLaws.{next-kind}
 use Rattle.walk.proofs.LoopLaws.{walk-pause, walk-halt, walk-pass}
-use Rattle.walk.proofs.TurnLaws.{pass-going, good-next}
+use Rattle.turns.proofs.TurnLaws.{pass-going}
+use Rattle.walk.proofs.TurnLaws.{good-next}
 use Rattle.lines.proofs.LinedLaws.{lined-good}
-use Rattle.lines.proofs.InsideLaws.{line-spot}
-use Rattle.listing.specs.Rows.{longest, wanted, sayOf, tooLong, toldBy, toldOf}
-use Rattle.listing.specs.declared.Row.{Row}
-use Rattle.listing.specs.declared.Row.the-variants.{TooLong}
+use Rattle.plan.proofs.CodeLaws.{line-spot, image-total}
+use Rattle.listing.specs.Rows.{longest, wanted, sayOf, tooLong, toldOf}
+use Rattle.rows.specs.declared.Row.{Row}
+use Rattle.rows.specs.declared.Row.the-variants.{TooLong}
 use Rattle.listing.specs.declared.Say.the-variants.{Want, Next, Last}
 use Rattle.listing.specs.declared.Told.{Told}
+use Rattle.listing.proofs.TurnLaws.{told-long, told-is}
 use Rattle.promises.specs.Listing.{Lists, piece, ended, next, last, closingBy, closingRow}
 use Rattle.promises.specs.Rules.{image}
 use Rattle.promises.proofs.Accepts.{good-fresh}
@@ -40,13 +44,9 @@ use Rattle.promises.proofs.Counted.{open-never-complete}
 use Rattle.promises.proofs.FirstPasses.{one-turn}
 use Rattle.promises.proofs.PlanNamed.{plan-kept}
 use Rattle.promises.proofs.Stays.{refusal-stays, budget-stays}
-use Rattle.promises.proofs.Turns.{turn-room, turn-pass-stays, next-stays, rest-stays, never-pause, refused≢pause, wait≢pause, wait≢refused, complete≢pause, wait≢complete}
+use Rattle.promises.proofs.Turns.{halt-same, pass≢halt, turn-room, turn-pass-stays, next-stays, rest-stays, never-pause, refused≢pause, wait≢pause, wait≢refused, complete≢pause, wait≢complete}
 
 -- ---- how long the next record is
-
-image-total : (p : Plan) → totalOf image′ p ≡ suc (p .n)
-unfolding totalOf sumOf runCounts
-image-total p = omega arith
 
 -- a record that is due has twelve bytes at least
 due-least : (st : State) → goodState st ≡ true → st .kind ≡ image′ → st .passed < totalOf image′ (st .plan) → 12 ≤ spotOf image′ (st .plan) (st .passed) .length
@@ -70,17 +70,8 @@ pub data Waiting (st : State) (held : List ℕ) (n : ℕ) : Type 0 where
   header-rest : st .passed < totalOf (st .kind) (st .plan) → length held + n ≡ 12 → 1 ≤ n → Waiting st held n
   record-rest : st .passed < totalOf (st .kind) (st .plan) → length held + n ≡ nextSpot st .length → 1 ≤ n → Waiting st held n
 
-halted : {x y : Stop} → Halt x ≡ Halt y → x ≡ y
-halted e = cc
-
 waited : {m n : ℕ} → Wait m ≡ Wait n → m ≡ n
 waited e = cc
-
-refused≢wait : (o a m t n : ℕ) → Halt (refusedAt o a m t) ≡ Halt (Wait n) → ⊥
-refused≢wait o a m t n e = let z : _≡_ {A = ℕ} 0 1 = cc in omega arith
-
-pass≢wait : (n : ℕ) → Pass ≡ Halt (Wait n) → ⊥
-pass≢wait n e = let z : _≡_ {A = ℕ} 0 1 = cc in omega arith
 
 waits : (st : State) (held : List ℕ) (n : ℕ) → turnOf st held false ≡ Halt (Wait n) → Waiting st held n
 unfolding judgeOf shortOf
@@ -98,12 +89,12 @@ waits st held n e =
         (onFine t (st .passed + 1) (nextSpot st .start) Pass)))) ≡ Halt (Wait n)
         → Waiting st held n
     go true ex y ey h z ez t e = behind (leb-true _ _ ex)
-    go false ex true ey h z ez t e = let l : length held < 12 = ltb-true _ _ ey in let m : 12 - length held ≡ n = waited (halted e) in header-rest (leb-false _ _ ex) (omega arith) (omega arith)
-    go false ex false ey (Fault m a) z ez t e = absurd (refused≢wait _ _ _ _ _ e)
+    go false ex true ey h z ez t e = let l : length held < 12 = ltb-true _ _ ey in let m : 12 - length held ≡ n = waited (halt-same e) in header-rest (leb-false _ _ ex) (omega arith) (omega arith)
+    go false ex false ey (Fault m a) z ez t e = absurd (wait≢refused (sym (halt-same e)))
     go false ex false ey Fine true ez t e =
-        let l : length held < nextSpot st .length = ltb-true _ _ ez in let m : nextSpot st .length - length held ≡ n = waited (halted e) in record-rest (leb-false _ _ ex) (omega arith) (omega arith)
-    go false ex false ey Fine false ez (Fault m a) e = absurd (refused≢wait _ _ _ _ _ e)
-    go false ex false ey Fine false ez Fine e = absurd (pass≢wait _ e)
+        let l : length held < nextSpot st .length = ltb-true _ _ ez in let m : nextSpot st .length - length held ≡ n = waited (halt-same e) in record-rest (leb-false _ _ ex) (omega arith) (omega arith)
+    go false ex false ey Fine false ez (Fault m a) e = absurd (wait≢refused (sym (halt-same e)))
+    go false ex false ey Fine false ez Fine e = absurd (pass≢halt e)
 
 -- ---- what a turn says, back to what the walk by one record did
 
@@ -132,14 +123,13 @@ wanted-same e = cc
 last-same : {r q : Row} → Last r ≡ Last q → r ≡ q
 last-same e = cc
 
+-- what is said where the lines are too long, and where they are not: what the walk by one record did
 module _ (st : State) (held : List ℕ) (c : Bool) where
-  told-long : tooLong st ≡ true → toldOf st held c ≡ record { state = st; say = Last TooLong }
-  unfolding toldOf
-  told-long e = ap (λ (b : Bool). pick b (record { state = st; say = Last TooLong }) (toldBy st held (walkOf 1 st held c))) e
+  say-long : tooLong st ≡ true → toldOf st held c .say ≡ Last TooLong
+  say-long e = ap (λ (t : Told). t .say) (sym (told-long st held c e))
 
-  told-short : tooLong st ≡ false → toldOf st held c ≡ toldBy st held (walkOf 1 st held c)
-  unfolding toldOf
-  told-short e = ap (λ (b : Bool). pick b (record { state = st; say = Last TooLong }) (toldBy st held (walkOf 1 st held c))) e
+  say-short : tooLong st ≡ false → toldOf st held c .say ≡ sayOf st held (walkOf 1 st held c .state) (walkOf 1 st held c .stop)
+  say-short e = ap (λ (t : Told). t .say) (told-is st held c (walkOf 1 st held c) e refl)
 
 -- too long: a first record has passed
 long-passed : (st : State) → tooLong st ≡ true → (st .passed ≡ 0 → ⊥) × (longest < st .plan .l)
@@ -224,7 +214,7 @@ closes-long st bs row e q b h =
 closes-ended : (st : State) (held : List ℕ) (row : Row) → goodState st ≡ true → tooLong st ≡ false → toldOf st held true .say ≡ Last row → Closes st (held ++ []) row
 closes-ended st held row g s e b h =
     let w = walkOf 1 st held true in
-    let q = say-last st held (w .state) (w .stop) row (sym (ap (λ (t : Told). t .say) (told-short st held true s)) ∙ e) in
+    let q = say-last st held (w .state) (w .stop) row (sym (say-short st held true s) ∙ e) in
     let k : walkOf b st held true .stop ≢ Pause = subst (λ (bs : List ℕ). walkOf b st bs true .stop ≢ Pause) (append-nil held) h in
     let (d, m) = budget-some b st held g k in
     let v : walkOf b st held true ≡ w = ap (λ (i : ℕ). walkOf i st held true) (m ∙ (let o : suc d ≡ 1 + d = omega arith in o)) ∙ budget-stays 1 st held true (q .1) d in
@@ -236,14 +226,14 @@ closes-refused st held rest row g s e b h = go (walkOf 1 st held false .stop) re
   where
     go : (x : Stop) → walkOf 1 st held false .stop ≡ x
         → (row ≡ closingRow (walkOf b st (held ++ rest) true)) ⊎ ((row ≡ TooLong) × (longest < walkOf b st (held ++ rest) true .state .plan .l))
-    go (Wait n) z = absurd (say-last st held (walkOf 1 st held false .state) (walkOf 1 st held false .stop) row (sym (ap (λ (t : Told). t .say) (told-short st held false s)) ∙ e) .2 n z)
-    go Pause z = absurd (say-last st held (walkOf 1 st held false .state) (walkOf 1 st held false .stop) row (sym (ap (λ (t : Told). t .say) (told-short st held false s)) ∙ e) .1 z)
+    go (Wait n) z = absurd (say-last st held (walkOf 1 st held false .state) (walkOf 1 st held false .stop) row (sym (say-short st held false s) ∙ e) .2 n z)
+    go Pause z = absurd (say-last st held (walkOf 1 st held false .state) (walkOf 1 st held false .stop) row (sym (say-short st held false s) ∙ e) .1 z)
     go Complete′ z = absurd (open-never-complete 1 st held z)
     go (Refused′ r) z =
         let (d, m) = budget-some b st (held ++ rest) g h in
         let v : walkOf b st (held ++ rest) true ≡ walkOf 1 st held false =
         ap (λ (i : ℕ). walkOf i st (held ++ rest) true) (m ∙ (let o : suc d ≡ 1 + d = omega arith in o)) ∙ refusal-stays 1 st held r z rest true d in
-        inl (say-last st held (walkOf 1 st held false .state) (walkOf 1 st held false .stop) row (sym (ap (λ (t : Told). t .say) (told-short st held false s)) ∙ e) .0 ∙ ap closingRow (sym v))
+        inl (say-last st held (walkOf 1 st held false .state) (walkOf 1 st held false .stop) row (sym (say-short st held false s) ∙ e) .0 ∙ ap closingRow (sym v))
 
 -- a record that passes is all that is held; the walk goes on behind it
 closes-next : (st : State) (held rest : List ℕ) (row : Row) → goodState st ≡ true → turnOf st held false ≡ Pass → Room st held
@@ -261,33 +251,29 @@ closes-next st held rest row g t room c b h =
     let k : walkOf d (nextOf st held) ([] ++ rest) true .stop ≢ Pause = λ z. h (ap (λ (w : Walked). w .stop) v ∙ z) in
     ⊎-elim (λ e. inl (e ∙ sym (ap closingRow v))) (λ e. inr (e .0, subst (λ (w : Walked). longest < w .state .plan .l) (sym v) (e .1))) (c d k)
 
-kind-next : (st : State) (held : List ℕ) → nextOf st held .kind ≡ st .kind
-unfolding nextOf
-kind-next st held = refl
-
 lists-is : {st : State} {held rest : List ℕ} {row : Row} → Lists st held rest row → goodState st ≡ true → st .kind ≡ image′ → Room st held → Closes st (held ++ rest) row
 lists-is {st} {held} (piece {rest = rest} {row = row} p m e l more′) g k room =
-    ⊎-elim (λ s. absurd (want≢last (sym e ∙ ap (λ (t : Told). t .say) (told-long st held false s))))
+    ⊎-elim (λ s. absurd (want≢last (sym e ∙ say-long st held false s)))
     (λ s.
     let w = walkOf 1 st held false in
-    let (n, z, y) = say-want st held (w .state) (w .stop) m (sym (ap (λ (t : Told). t .say) (told-short st held false s)) ∙ e) in
+    let (n, z, y) = say-want st held (w .state) (w .stop) m (sym (say-short st held false s) ∙ e) in
     closes-assoc st held p rest row (lists-is more′ g k (want-fits st held g k n z p (subst (λ (i : ℕ). length p ≤ i) y l))))
     (cases (tooLong st))
 lists-is {st} {held} (ended {row = row} m e f) g k room =
-    ⊎-elim (λ s. absurd (want≢last (sym e ∙ ap (λ (t : Told). t .say) (told-long st held false s)))) (λ s. closes-ended st held row g s f) (cases (tooLong st))
+    ⊎-elim (λ s. absurd (want≢last (sym e ∙ say-long st held false s))) (λ s. closes-ended st held row g s f) (cases (tooLong st))
 lists-is {st} {held} {rest} {row} (next r e after) g k room =
-    ⊎-elim (λ s. absurd (next≢last (sym e ∙ ap (λ (t : Told). t .say) (told-long st held false s))))
+    ⊎-elim (λ s. absurd (next≢last (sym e ∙ say-long st held false s)))
     (λ s.
     let w = walkOf 1 st held false in
-    let z = say-next st held (w .state) (w .stop) r (sym (ap (λ (t : Told). t .say) (told-short st held false s)) ∙ e) in
+    let z = say-next st held (w .state) (w .stop) r (sym (say-short st held false s) ∙ e) in
     let t = turn-passes st held g z in
-    let o : toldOf st held false .state ≡ nextOf st held = ap (λ (x : Told). x .state) (told-short st held false s) ∙ ap (λ (x : Walked). x .state) (one-turn st held false g t) in
+    let o : toldOf st held false .state ≡ nextOf st held = ap (λ (x : Told). x .state) (told-is st held false (walkOf 1 st held false) s refl) ∙ ap (λ (x : Walked). x .state) (one-turn st held false g t) in
     closes-next st held rest row g t room
     (subst (λ (x : State). Closes x ([] ++ rest) row) o
-    (lists-is after (subst (λ (x : State). goodState x ≡ true) (sym o) (good-next st held false g t)) (ap (λ (x : State). x .kind) o ∙ kind-next st held ∙ k) (inl (omega arith)))))
+    (lists-is after (subst (λ (x : State). goodState x ≡ true) (sym o) (good-next st held false g t)) (ap (λ (x : State). x .kind) o ∙ next-kind st held ∙ k) (inl (omega arith)))))
     (cases (tooLong st))
 lists-is {st} {held} {rest} {row} (last e) g k room =
-    ⊎-elim (λ s. closes-long st (held ++ rest) row s (sym (ap (λ (t : Told). t .say) (told-long st held false s)) ∙ e)) (λ s. closes-refused st held rest row g s e) (cases (tooLong st))
+    ⊎-elim (λ s. closes-long st (held ++ rest) row s (sym (say-long st held false s) ∙ e)) (λ s. closes-refused st held rest row g s e) (cases (tooLong st))
 
 -- begun fresh, with nothing held: the last row is the whole closed walk's answer, with any budget that does not pause; or RECORD TOO LONG, where L is over 32,768
 pub listing-is-walk : {input : List ℕ} {row : Row} → Lists (fresh image′) [] input row → (b : ℕ) → walkOf b (fresh image′) input true .stop ≢ Pause

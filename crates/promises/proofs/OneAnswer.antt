@@ -8,12 +8,14 @@ use Rattle.decimal.specs.Scan.{written}
 use Rattle.decimal.specs.declared.Form.{Form}
 use Rattle.fields.specs.Field.{fieldAt}
 use Rattle.fields.specs.Listed.{listedField}
-use Rattle.plan.specs.Plan.{planGood}
+use Rattle.plan.specs.Plan.{group, planGood}
 use Rattle.plan.specs.declared.Plan.{Plan}
-use Rattle.bodies.specs.Bodies.{numberAt, bodyOf}
+use Rattle.checks.specs.Parts.{numberAt}
+use Rattle.bodies.specs.Bodies.{bodyOf}
 use Rattle.bodies.specs.Named.{planOf}
 use Rattle.walk.specs.Rule.{fresh, startOf}
-use Rattle.walk.specs.Turn.{headerOf, walkOf, beginOf}
+use Rattle.turns.specs.Turn.{headerOf}
+use Rattle.walk.specs.Turn.{walkOf, beginOf}
 use Rattle.walk.specs.declared.State.{State}
 use Rattle.plan.specs.declared.Codes.{Codes}
 use Rattle.lines.specs.View.{viewOf, pixelsOf}
@@ -39,8 +41,8 @@ pub record OneAnswer : Type 0 where
   pub walk : (budget : ℕ) (st : State) (bytes : List ℕ) (closed : Bool) → Only (walkOf budget st bytes closed)
   pub step : (st : State) (bytes : List ℕ) (closed : Bool) → Only (walkOf 1 st bytes closed)
   pub header : (ordinal : ℕ) (c : Codes) (long : ℕ) (bytes : List ℕ) → Only (headerOf ordinal c long bytes)
-  pub line-view : (bytes : List ℕ) (k : ℕ) → Only (viewOf bytes k)
-  pub pixels : (bytes : List ℕ) (k : ℕ) → Only (pixelsOf bytes k)
+  pub line-view : (bytes : List ℕ) (k : ℕ) → Only (viewOf group bytes k)
+  pub pixels : (bytes : List ℕ) (k : ℕ) → Only (pixelsOf group bytes k)
   pub row-copy : (bytes : List ℕ) (k : ℕ) (row : List ℕ) → Only (copiedOf bytes k (length row)) × Only (rowOf bytes k row)
   pub check : (directory counts : List ℕ) → Only (setOf directory counts)
 

@@ -18,20 +18,22 @@ use Rattle.plan.specs.declared.Spot.{Spot}
 use Rattle.plan.proofs.CodeLaws.{spot-first}
 use Rattle.bodies.specs.Bodies.{bodyOf}
 use Rattle.bodies.specs.Named.{planOf}
-use Rattle.bodies.specs.declared.Verdict.{Verdict}
+use Rattle.checks.specs.declared.Verdict.{Verdict}
 use Rattle.walk.specs.Rule.{fresh, goodState, nextSpot}
-use Rattle.walk.specs.Turn.{turnOf, nextOf, onFine, stopped, more, badStop, walkOf}
+use Rattle.turns.specs.Turn.{onFine}
+use Rattle.walk.specs.Turn.{turnOf, nextOf, stopped, more, badStop, walkOf}
 use Rattle.walk.specs.declared.State.{State}
-use Rattle.walk.specs.declared.Stop.{Stop}
-use Rattle.walk.specs.declared.Stop.the-variants.{Pause}
-use Rattle.walk.specs.declared.Turn.the-variants.{Pass}
+use Rattle.turns.specs.declared.Stop.{Stop}
+use Rattle.turns.specs.declared.Stop.the-variants.{Pause}
+use Rattle.turns.specs.declared.Turn.the-variants.{Pass}
 use Rattle.walk.specs.declared.Walked.{Walked}
-use Rattle.walk.proofs.GoodLaws.{good-known, good-later, fresh-good}
-use Rattle.walk.proofs.TurnLaws.{pass-parts, pass-long, pass-going, judge-body}
+use Rattle.walk.proofs.GoodLaws.{good-known, good-later}
+use Rattle.turns.proofs.TurnLaws.{pass-parts, pass-long, pass-going, judge-body}
 use Rattle.walk.proofs.LoopLaws.{walk-pass, more-none}
-use Rattle.promises.specs.Rules.{Kind, volume, leader, image, trailer, kindNumber}
+use Rattle.promises.specs.Rules.{Kind, kindNumber}
 use Rattle.promises.specs.Pieces.{usedOf}
 use Rattle.promises.specs.Arriving.{Own, begun, again}
+use Rattle.promises.proofs.Accepts.{good-fresh}
 use Rattle.promises.proofs.Steps.{by-turns}
 use Rattle.promises.proofs.Turns.{turn-pass-stays, next-stays}
 use Rattle.walk.proofs.KeptLaws.{good-kept}
@@ -154,16 +156,10 @@ pub record Reached (kind : Kind) (st : State) (pre : List ℕ) : Type 0 where
   pub passed : ℕ
   pub walks : (d : ℕ) (ys : List ℕ) (e : Bool) → walkOf (passed + d) (fresh (kindNumber kind)) (pre ++ ys) e ≡ more passed (walkOf d st ys e)
 
-kind-range : (kind : Kind) → (1 ≤ kindNumber kind) × (kindNumber kind ≤ 4)
-kind-range volume = (omega arith, omega arith)
-kind-range leader = (omega arith, omega arith)
-kind-range image = (omega arith, omega arith)
-kind-range trailer = (omega arith, omega arith)
-
 pub reached : (kind : Kind) {st : State} {pre : List ℕ} → Own kind st pre → Reached kind st pre
 reached kind begun =
     record {
-      good = fresh-good (kindNumber kind) (kind-range kind .0) (kind-range kind .1);
+      good = good-fresh kind;
       rows = (refl, refl);
       passed = 0;
       walks = λ d ys e. rw zero-add (more-none (walkOf d (fresh (kindNumber kind)) ys e));

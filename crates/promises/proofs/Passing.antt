@@ -13,63 +13,42 @@ use Rattle.plan.specs.Plan.{totalOf, codesOf}
 use Rattle.plan.specs.declared.Plan.{Plan}
 use Rattle.plan.specs.declared.Spot.{Spot}
 use Rattle.bodies.specs.Bodies.{bodyOf}
-use Rattle.bodies.specs.declared.Verdict.{Verdict}
-use Rattle.bodies.specs.declared.Verdict.the-variants.{Fine, Fault}
+use Rattle.checks.specs.declared.Verdict.{Verdict}
+use Rattle.checks.specs.declared.Verdict.the-variants.{Fine, Fault}
 use Rattle.walk.specs.Rule.{goodState, nextSpot}
-use Rattle.walk.specs.Turn.{onFine, headerOf, judgeOf, turnOf, nextOf, endedOf, shortOf, refusedAt, walkOf}
+use Rattle.turns.specs.Turn.{onFine, headerOf, judgeOf, endedOf, shortOf, refusedAt}
+use Rattle.walk.specs.Turn.{turnOf, nextOf, walkOf}
 use Rattle.walk.specs.declared.State.{State}
-use Rattle.walk.specs.declared.Stop.{Stop}
-use Rattle.walk.specs.declared.Stop.the-variants.{Wait, Complete}
-use Rattle.walk.specs.declared.Turn.{Turn}
-use Rattle.walk.specs.declared.Turn.the-variants.{Pass, Halt}
+use Rattle.turns.specs.declared.Stop.the-variants.{Wait, Complete}
+use Rattle.turns.specs.declared.Turn.{Turn}
+use Rattle.turns.specs.declared.Turn.the-variants.{Pass, Halt}
 use Rattle.walk.specs.declared.Walked.{Walked}
-use Rattle.walk.proofs.TurnLaws.{pass-parts, pass-long, judge-ended, judge-body}
+use Rattle.turns.proofs.TurnLaws.{pass-parts, pass-long, judge-ended, judge-body}
 use Rattle.walk.proofs.LoopLaws.{walk-halt, walk-pass}
 use Rattle.promises.proofs.Parts.{header-take}
-
--- a refusal is not "complete", and a record that passes does not stop
-refused≢complete : (o a n t : ℕ) → Halt (refusedAt o a n t) ≡ Halt Complete → ⊥
-refused≢complete o a n t e = let z : _≡_ {A = ℕ} 0 1 = cc in omega arith
-
-pass≢complete : Pass ≡ Halt Complete → ⊥
-pass≢complete e = let z : _≡_ {A = ℕ} 0 1 = cc in omega arith
+use Rattle.promises.proofs.Turns.{halt-same, pass≢halt, refused≢complete, wait≢complete, wait≢refused}
 
 complete-parts : (x e y z : Bool) (h t : Verdict) (o a : ℕ)
     → pick x (Halt (pick e Complete (refusedAt o a 9 0))) (pick y (Halt (refusedAt o a 2 0)) (onFine h o a (pick z (Halt (refusedAt o a 2 0)) (onFine t o a Pass)))) ≡ Halt Complete
     → (x ≡ true) × (e ≡ true)
 complete-parts true true y z h t o a q = (refl, refl)
-complete-parts true false y z h t o a q = absurd (refused≢complete _ _ _ _ q)
-complete-parts false e true z h t o a q = absurd (refused≢complete _ _ _ _ q)
-complete-parts false e false z (Fault n p) t o a q = absurd (refused≢complete _ _ _ _ q)
-complete-parts false e false true Fine t o a q = absurd (refused≢complete _ _ _ _ q)
-complete-parts false e false false Fine (Fault n p) o a q = absurd (refused≢complete _ _ _ _ q)
-complete-parts false e false false Fine Fine o a q = absurd (pass≢complete q)
+complete-parts true false y z h t o a q = absurd (refused≢complete (halt-same q))
+complete-parts false e true z h t o a q = absurd (refused≢complete (halt-same q))
+complete-parts false e false z (Fault n p) t o a q = absurd (refused≢complete (halt-same q))
+complete-parts false e false true Fine t o a q = absurd (refused≢complete (halt-same q))
+complete-parts false e false false Fine (Fault n p) o a q = absurd (refused≢complete (halt-same q))
+complete-parts false e false false Fine Fine o a q = absurd (pass≢halt q)
 
 -- a closed turn never waits
 module _ (n : ℕ) where
-  halts-not : (s : Stop) → (s ≡ Wait n → ⊥) → Halt s ≡ Halt (Wait n) → ⊥
-  halts-not s h e = h (halted e)
-    where
-      halted : {x y : Stop} → Halt x ≡ Halt y → x ≡ y
-      halted e = cc
-
-  refused≢wait : (o a m t : ℕ) → refusedAt o a m t ≡ Wait n → ⊥
-  refused≢wait o a m t e = let z : _≡_ {A = ℕ} 0 1 = cc in omega arith
-
-  complete≢wait : Complete ≡ Wait n → ⊥
-  complete≢wait e = let z : _≡_ {A = ℕ} 0 1 = cc in omega arith
-
-  pass≢halt : Pass ≡ Halt (Wait n) → ⊥
-  pass≢halt e = let z : _≡_ {A = ℕ} 0 1 = cc in omega arith
-
   wait-parts : (x e y z : Bool) (h t : Verdict) (o a : ℕ)
       → pick x (Halt (pick e Complete (refusedAt o a 9 0))) (pick y (Halt (refusedAt o a 2 0)) (onFine h o a (pick z (Halt (refusedAt o a 2 0)) (onFine t o a Pass)))) ≡ Halt (Wait n) → ⊥
-  wait-parts true true y z h t o a q = halts-not _ complete≢wait q
-  wait-parts true false y z h t o a q = halts-not _ (refused≢wait o a 9 0) q
-  wait-parts false e true z h t o a q = halts-not _ (refused≢wait o a 2 0) q
-  wait-parts false e false z (Fault m p) t o a q = halts-not _ (refused≢wait o a m p) q
-  wait-parts false e false true Fine t o a q = halts-not _ (refused≢wait o a 2 0) q
-  wait-parts false e false false Fine (Fault m p) o a q = halts-not _ (refused≢wait o a m p) q
+  wait-parts true true y z h t o a q = wait≢complete (sym (halt-same q))
+  wait-parts true false y z h t o a q = wait≢refused (sym (halt-same q))
+  wait-parts false e true z h t o a q = wait≢refused (sym (halt-same q))
+  wait-parts false e false z (Fault m p) t o a q = wait≢refused (sym (halt-same q))
+  wait-parts false e false true Fine t o a q = wait≢refused (sym (halt-same q))
+  wait-parts false e false false Fine (Fault m p) o a q = wait≢refused (sym (halt-same q))
   wait-parts false e false false Fine Fine o a q = pass≢halt q
 
 pub closed-turn : (st : State) (b : List ℕ) (n : ℕ) → turnOf st b true ≡ Halt (Wait n) → ⊥

@@ -12,12 +12,12 @@ use Rattle.bodies.specs.Named.{planOf}
 use Rattle.walk.specs.Rule.{fresh, goodState, nextSpot}
 use Rattle.walk.specs.Turn.{turnOf, nextOf, walkOf}
 use Rattle.walk.specs.declared.State.{State}
-use Rattle.walk.specs.declared.Stop.the-variants.{Pause}
-use Rattle.walk.specs.declared.Turn.{Turn}
-use Rattle.walk.specs.declared.Turn.the-variants.{Pass, Halt}
+use Rattle.turns.specs.declared.Stop.the-variants.{Pause}
+use Rattle.turns.specs.declared.Turn.{Turn}
+use Rattle.turns.specs.declared.Turn.the-variants.{Pass, Halt}
 use Rattle.walk.specs.declared.Walked.{Walked}
 use Rattle.walk.proofs.LoopLaws.{walk-bad, walk-halt, walk-pass, walk-pause}
-use Rattle.walk.proofs.TurnLaws.{pass-parts, pass-long}
+use Rattle.turns.proofs.TurnLaws.{pass-parts, pass-long}
 use mathlib.Core.Logic.{_⊎_, inl, inr, _≢_}
 use borrow.Author.Tests.{ne-eqb}
 use Rattle.words.specs.Tests.{pick}

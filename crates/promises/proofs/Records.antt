@@ -11,7 +11,7 @@ use Rattle.plan.specs.declared.Plan.{Plan}
 use Rattle.bodies.specs.Named.{planOf}
 use Rattle.walk.specs.Rule.{fresh}
 use Rattle.walk.specs.Turn.{walkOf}
-use Rattle.walk.specs.declared.Stop.the-variants.{Complete}
+use Rattle.turns.specs.declared.Stop.the-variants.{Complete}
 use Rattle.promises.specs.Rules.{Kind, kindNumber, promised, concat, Accepted}
 use Rattle.promises.proofs.FirstIs.{first-plan, first-size, same-promised}
 use Rattle.promises.proofs.LaterIs.{promised-length}

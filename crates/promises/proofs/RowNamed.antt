@@ -25,19 +25,19 @@ use Rattle.promises.proofs.LineNamed.{stands-shown, pixels-named}
 module _ (bs : List ℕ) (k : ℕ) (p : Plan) (row : List ℕ) (t : Stands bs k p) where
   pixels-are : dataPixels 2 p (lineRecord p k bs) ≡ take (group * dataCount (lineRecord p k bs)) (drop (dataStart 2 p k (lineRecord p k bs)) bs)
   unfolding pixelsOf
-  pixels-are = sym (pixels-named bs k p t) ∙ ap (λ (v : View). shownBytes group v bs) (stands-shown bs k p t)
+  pixels-are = sym (pixels-named bs k p t) ∙ ap (λ (v : View). shownBytes group v bs) (stands-shown group bs k p t)
 
   -- the answer, and the row: the samples, then the old row
   pub row-named : dataCount (lineRecord p k bs) ≤ length row
       → (copiedOf bs k (length row) ≡ Done (dataCount (lineRecord p k bs)))
       × (rowOf bs k row ≡ samples (dataCount (lineRecord p k bs)) (dataPixels 2 p (lineRecord p k bs)) ++ drop (dataCount (lineRecord p k bs)) row)
   row-named h =
-      let q = copy-done bs k row (viewOf bs k) refl _ _ _ (stands-shown bs k p t) h (dataPixels 2 p (lineRecord p k bs)) pixels-are in
+      let q = copy-done bs k row (viewOf group bs k) refl _ _ _ (stands-shown group bs k p t) h (dataPixels 2 p (lineRecord p k bs)) pixels-are in
       (sym (q .0), sym (q .1))
 
   -- 15 where the row is shorter than the line's data pixels, and it stays
   pub short-row : length row < dataCount (lineRecord p k bs) → (copiedOf bs k (length row) ≡ Refused′ (bareRefusal 15)) × (rowOf bs k row ≡ row)
-  short-row h = let q = copy-short bs k row (viewOf bs k) refl _ _ _ (stands-shown bs k p t) h in (sym (q .0), sym (q .1))
+  short-row h = let q = copy-short bs k row (viewOf group bs k) refl _ _ _ (stands-shown group bs k p t) h in (sym (q .0), sym (q .1))
 
 sample-is : (px : List ℕ) (j : ℕ) → twoAt px (group * (0 + j)) ≡ sample px j
 unfolding twoAt
@@ -75,7 +75,7 @@ sample-named bs k p row t h =
 -- on a wait or a refusal every sample stays
 pub row-kept : Keeps copier
 unfolding copiedOf rowOf
-row-kept bs k row h = go (viewOf bs k) h
+row-kept bs k row h = go (viewOf group bs k) h
   where
     go : (v : View) → ((n : ℕ) → copiedBy v (length row) ≡ Done n → ⊥) → rowBy v bs row ≡ row
     go (Shown start count left) h = pick-kept (ltb (length row) count) (samples count (shownBytes group (Shown start count left) bs) ++ drop count row) (λ e. h count (ap (λ (b : Bool). pick b (Refused′ (bareRefusal 15)) (Done count)) e))

@@ -25,8 +25,8 @@ use Rattle.walk.specs.Rule.{fresh, nextSpot}
 use Rattle.walk.specs.Turn.{nextOf}
 use Rattle.walk.specs.declared.Walked.{Walked}
 use Rattle.walk.proofs.LoopLaws.{walk-pass}
-use Rattle.walk.specs.declared.Stop.{Stop}
-use Rattle.walk.specs.declared.Stop.the-variants.{Wait, Pause, Complete, Refused as Refused′}
+use Rattle.turns.specs.declared.Stop.{Stop}
+use Rattle.turns.specs.declared.Stop.the-variants.{Wait, Pause, Complete, Refused as Refused′}
 use Rattle.sets.specs.Set.{differs, countByte, countOf, compareFrom, compareOf, behindWalk, directory, setOf}
 use Rattle.sets.specs.declared.Agreement.{Agreement}
 use Rattle.sets.specs.declared.Agreement.the-variants.{Agrees, Refused}

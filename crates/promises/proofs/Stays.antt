@@ -10,9 +10,9 @@ use Rattle.words.specs.declared.Refusal.{Refusal}
 use Rattle.walk.specs.Rule.{goodState, nextSpot}
 use Rattle.walk.specs.Turn.{turnOf, nextOf, stopped, more, walkOf}
 use Rattle.walk.specs.declared.State.{State}
-use Rattle.walk.specs.declared.Stop.{Stop}
-use Rattle.walk.specs.declared.Stop.the-variants.{Pause, Refused}
-use Rattle.walk.specs.declared.Turn.the-variants.{Pass, Halt}
+use Rattle.turns.specs.declared.Stop.{Stop}
+use Rattle.turns.specs.declared.Stop.the-variants.{Pause, Refused}
+use Rattle.turns.specs.declared.Turn.the-variants.{Pass, Halt}
 use Rattle.walk.specs.declared.Walked.{Walked}
 use Rattle.walk.proofs.LoopLaws.{walk-bad, walk-halt, walk-pass}
 use Rattle.promises.proofs.Steps.{by-turns}

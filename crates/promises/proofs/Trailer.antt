@@ -8,7 +8,7 @@ use native.Mathlib.Omega.{arith}
 use Rattle.plan.specs.Plan.{totalOf, runCounts, sumOf}
 use Rattle.walk.specs.Rule.{fresh}
 use Rattle.walk.specs.Turn.{walkOf}
-use Rattle.walk.specs.declared.Stop.the-variants.{Complete}
+use Rattle.turns.specs.declared.Stop.the-variants.{Complete}
 use Rattle.promises.specs.Rules.{Accepted, trailer}
 use Rattle.promises.proofs.Accepts.{accepts}
 

@@ -19,23 +19,24 @@ use Rattle.plan.specs.declared.Plan.{Plan}
 use Rattle.plan.specs.declared.Spot.{Spot}
 use Rattle.bodies.specs.Bodies.{bodyOf}
 use Rattle.bodies.specs.Named.{planOf}
-use Rattle.bodies.specs.declared.Verdict.{Verdict}
-use Rattle.bodies.specs.declared.Verdict.the-variants.{Fine, Fault}
+use Rattle.checks.specs.declared.Verdict.{Verdict}
+use Rattle.checks.specs.declared.Verdict.the-variants.{Fine, Fault}
 use Rattle.walk.specs.Rule.{nextSpot}
-use Rattle.walk.specs.Turn.{refusedAt, onFine, codesAre, headerTests, headerOf, judgeOf, turnOf, nextOf, endedOf, shortOf}
+use Rattle.turns.specs.Turn.{refusedAt, onFine, codesAre, headerTests, headerOf, judgeOf, endedOf, shortOf}
+use Rattle.walk.specs.Turn.{turnOf, nextOf}
 use Rattle.walk.specs.declared.State.{State}
-use Rattle.walk.specs.declared.Stop.{Stop}
-use Rattle.walk.specs.declared.Stop.the-variants.{Wait, Pause, Complete, Refused}
-use Rattle.walk.specs.declared.Turn.{Turn}
-use Rattle.walk.specs.declared.Turn.the-variants.{Pass, Halt}
-use Rattle.walk.proofs.TurnLaws.{pass-long, judge-ended, judge-twelve, judge-fault, judge-part, judge-body, not-fine}
+use Rattle.turns.specs.declared.Stop.{Stop}
+use Rattle.turns.specs.declared.Stop.the-variants.{Wait, Pause, Complete, Refused}
+use Rattle.turns.specs.declared.Turn.{Turn}
+use Rattle.turns.specs.declared.Turn.the-variants.{Pass, Halt}
+use Rattle.turns.proofs.TurnLaws.{pass-long, judge-ended, judge-twelve, judge-fault, judge-part, judge-body, not-fine}
 
 -- ---- the stops of a turn
 
-pass≢halt : {x : Stop} → Pass ≡ Halt x → ⊥
+pub pass≢halt : {x : Stop} → Pass ≡ Halt x → ⊥
 pass≢halt e = let z : _≡_ {A = ℕ} 0 1 = cc in omega arith
 
-halt-same : {x y : Stop} → Halt x ≡ Halt y → x ≡ y
+pub halt-same : {x y : Stop} → Halt x ≡ Halt y → x ≡ y
 halt-same e = cc
 
 module _ (Q : Stop → Type 0) (o a : ℕ) (s₁ s₂ s₃ : Stop) (q₁ : Q s₁) (q₂ : Q s₂) (q₃ : Q s₃) (x : Stop) where

@@ -13,8 +13,8 @@ use Rattle.bodies.specs.Named.{planOf}
 use Rattle.walk.specs.Rule.{fresh}
 use Rattle.walk.specs.Turn.{walkOf}
 use Rattle.walk.specs.declared.State.{State}
-use Rattle.walk.specs.declared.Stop.{Stop}
-use Rattle.walk.specs.declared.Stop.the-variants.{Wait, Refused}
+use Rattle.turns.specs.declared.Stop.{Stop}
+use Rattle.turns.specs.declared.Stop.the-variants.{Wait, Refused}
 use Rattle.words.specs.declared.Refusal.{Refusal}
 use mathlib.Core.Path.{_≡_}
 use Rattle.promises.specs.Rules.{Kind, kindNumber, Accepted, concat}

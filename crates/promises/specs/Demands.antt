@@ -14,9 +14,9 @@ use Rattle.bodies.specs.Named.{planOf}
 use Rattle.walk.specs.Rule.{fresh, goodState, nextSpot}
 use Rattle.walk.specs.Turn.{walkOf, turnOf, nextOf, stopped, more, badStop, onTurn}
 use Rattle.walk.specs.declared.State.{State}
-use Rattle.walk.specs.declared.Stop.the-variants.{Wait, Pause, Complete, Refused}
-use Rattle.walk.specs.declared.Turn.{Turn}
-use Rattle.walk.specs.declared.Turn.the-variants.{Pass}
+use Rattle.turns.specs.declared.Stop.the-variants.{Wait, Pause, Complete, Refused}
+use Rattle.turns.specs.declared.Turn.{Turn}
+use Rattle.turns.specs.declared.Turn.the-variants.{Pass}
 use Rattle.walk.specs.declared.Walked.{Walked}
 use Rattle.plan.specs.declared.Plan.{Plan}
 use Rattle.lines.specs.Row.{copiedOf, rowOf}

@@ -14,11 +14,15 @@ use Rattle.decimal.specs.Examples as decimal-examples
 use Rattle.fields.specs.Field.{fieldAt}
 use Rattle.plan.specs.Tables.{slotOf, otherCodes}
 use Rattle.plan.specs.Plan.{totalOf, sumOf, runCounts, runLengths, firstLength, spotOf, spotFrom, codesOf, allZero, zeroPlan?, planGood, imageGood, volumeGood, leaderGood, slotsGood}
-use Rattle.bodies.specs.Tests.{firstFault, textAt}
-use Rattle.bodies.specs.Bodies.{bodyOf, bodyTests, imageRecord, imageTests, numbersTests, agreements, lineTests, volumeRecord, leaderRecord, trailerTests}
+use Rattle.checks.specs.Tests.{firstFault, textAt}
+use Rattle.checks.specs.Parts.{numbersTests}
+use Rattle.leader.specs.Leader.{leaderRecord}
+use Rattle.image.specs.Image.{imageRecord, imageTests, agreements, lineTests}
+use Rattle.bodies.specs.Bodies.{bodyOf, bodyTests, volumeRecord, trailerTests}
 use Rattle.bodies.specs.Named.{planOf}
 use Rattle.walk.specs.Rule.{fresh, goodState}
-use Rattle.walk.specs.Turn.{walkOf, judgeOf, headerOf, headerTests, codesAre, endedOf, shortOf, nextOf, badStop}
+use Rattle.turns.specs.Turn.{judgeOf, headerOf, headerTests, codesAre, endedOf, shortOf}
+use Rattle.walk.specs.Turn.{walkOf, nextOf, badStop}
 use Rattle.walk.specs.Said.{stopAs}
 
 -- a number of several bytes, as an answer

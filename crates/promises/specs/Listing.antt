@@ -6,12 +6,12 @@ use mathlib.Core.List.{List, [], _++_}
 use lib.ListN.{length}
 use Rattle.walk.specs.Rule.{startOf}
 use Rattle.walk.specs.declared.State.{State}
-use Rattle.walk.specs.declared.Stop.{Stop}
-use Rattle.walk.specs.declared.Stop.the-variants.{Wait, Pause, Complete as Complete′, Refused as Refused′}
+use Rattle.turns.specs.declared.Stop.{Stop}
+use Rattle.turns.specs.declared.Stop.the-variants.{Wait, Pause, Complete as Complete′, Refused as Refused′}
 use Rattle.walk.specs.declared.Walked.{Walked}
 use Rattle.listing.specs.Rows.{toldOf}
-use Rattle.listing.specs.declared.Row.{Row}
-use Rattle.listing.specs.declared.Row.the-variants.{TooLong, Complete, Refused}
+use Rattle.rows.specs.declared.Row.{Row}
+use Rattle.rows.specs.declared.Row.the-variants.{TooLong, Complete, Refused}
 use Rattle.listing.specs.declared.Say.the-variants.{Want, Next, Last}
 
 -- from a state, with those bytes held and those still to come, the listing's last row is that one

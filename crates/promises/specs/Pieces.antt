@@ -7,8 +7,8 @@ use Rattle.words.specs.Tests.{pick}
 use Rattle.walk.specs.Rule.{goodState, nextSpot}
 use Rattle.walk.specs.Turn.{turnOf, nextOf}
 use Rattle.walk.specs.declared.State.{State}
-use Rattle.walk.specs.declared.Turn.{Turn}
-use Rattle.walk.specs.declared.Turn.the-variants.{Pass, Halt}
+use Rattle.turns.specs.declared.Turn.{Turn}
+use Rattle.turns.specs.declared.Turn.the-variants.{Pass, Halt}
 
 -- that many bytes where the record passes, none where the walk stops
 abbrev pub onPass : Turn → ℕ → ℕ

@@ -19,14 +19,18 @@ lineStart p k = 720 + (k - 1) * p .l
 abbrev pub lineRecord : Plan → ℕ → List ℕ → List ℕ
 lineRecord p k bs = take (p .l) (drop (lineStart p k) bs)
 
--- line k stands in the bytes: the first record meets its rules and names p, there is such a line, and its record is whole and meets its rules.
--- Nothing is said of other lines, nor of what follows
-pub record Stands (bs : List ℕ) (k : ℕ) (p : Plan) : Type 0 where
-  pub first : ImageDescriptor (take 720 bs) p
+-- line k is whole in the bytes, as a plan p places it: there is such a line, and its record is whole and meets its rules.
+-- Nothing is said of the first record, of other lines, nor of what follows
+pub record WholeLine (bs : List ℕ) (k : ℕ) (p : Plan) : Type 0 where
   pub least : 1 ≤ k
   pub most : k ≤ p .n
   pub is : Record (suc k) (lineDue p .Codes) (p .l) (lineRecord p k bs)
   pub holds : Line (p .w) k (lineRecord p k bs)
+
+-- line k stands in the bytes: the first record meets its rules and names p, and line k is whole there
+pub record Stands (bs : List ℕ) (k : ℕ) (p : Plan) : Type 0 where
+  pub first : ImageDescriptor (take 720 bs) p
+  pub line : WholeLine bs k p
 
 -- the left fill and the data count that a line's record says
 abbrev pub leftFill : List ℕ → ℕ
@@ -55,10 +59,14 @@ dataPixels g p r = take (g * dataCount r) (drop (before p + g * leftFill r) r)
 abbrev pub sample : List ℕ → ℕ → ℕ
 sample px j = 256 * byteAt px (2 * j) + byteAt px (2 * j + 1)
 
--- what a view shows of line k: the start of its data pixels, its data count, its left fill
-abbrev pub LineShown : List ℕ → ℕ → ℕ → ℕ → ℕ → Type 0
-LineShown bs k start count left =
-    (p : Plan) × Stands bs k p × (start ≡ dataStart 2 p k (lineRecord p k bs)) × (count ≡ dataCount (lineRecord p k bs)) × (left ≡ leftFill (lineRecord p k bs))
+-- the numbers of line k under a plan, of g bytes a sample: the start of its data pixels, its data count, its left fill
+abbrev pub LineNumbers : ℕ → Plan → ℕ → List ℕ → ℕ → ℕ → ℕ → Type 0
+LineNumbers g p k bs start count left =
+    (start ≡ dataStart g p k (lineRecord p k bs)) × (count ≡ dataCount (lineRecord p k bs)) × (left ≡ leftFill (lineRecord p k bs))
+
+-- what a view shows of line k: its numbers under the plan that the first record names
+abbrev pub LineShown : ℕ → List ℕ → ℕ → ℕ → ℕ → ℕ → Type 0
+LineShown g bs k start count left = (p : Plan) × Stands bs k p × LineNumbers g p k bs start count left
 
 -- ---- sets
 

@@ -22,10 +22,11 @@ use Rattle.walk.specs.Rule.{fresh, goodState}
 use Rattle.walk.specs.Turn.{walkOf, beginOf}
 use Rattle.walk.specs.declared.Begun.{Begun}
 use Rattle.walk.specs.declared.State.{State}
-use Rattle.walk.specs.declared.Stop.{Stop}
-use Rattle.walk.specs.declared.Stop.the-variants.{Wait, Pause, Complete, Refused as Refused′}
+use Rattle.turns.specs.declared.Stop.{Stop}
+use Rattle.turns.specs.declared.Stop.the-variants.{Wait, Pause, Complete, Refused as Refused′}
 use Rattle.walk.specs.declared.Walked.{Walked}
-use Rattle.walk.proofs.Stop.{the-type}
+use Rattle.turns.proofs.Stop.{the-type}
+use Rattle.walk.proofs.BegunLaws.{begun-walks}
 use Rattle.walk.proofs.GoodLaws.{good-zero, good-later, fresh-good}
 use Rattle.walk.proofs.KeptLaws.{good-kept, kind-kept}
 use Rattle.sets.specs.Set.{differs, countByte, countOf, compareFrom, compareOf, behindWalk, directory, setOf}
@@ -80,8 +81,7 @@ not-refused (Refused′ r) a o = absurd (⊎-elim (λ e. omega arith) (⊎-elim 
 -- the walk as the code has it, and the answer by its stop
 module _ (bs cs : List ℕ) (b : Begun) (w : Walked) (begins : b ≡ beginOf volume) (walks : w ≡ walkOf 9 (b .state) bs true) where
   pub walk-is : w ≡ directory bs
-  unfolding beginOf
-  walk-is = walks ∙ ap (λ (x : Begun). walkOf 9 (x .state) bs true) begins
+  walk-is = begun-walks volume 9 bs true refl b w begins walks
 
   set-is : setOf bs cs ≡ behindWalk (w .stop) (compareOf (w .state .plan .pointers) bs cs)
   unfolding setOf

@@ -8,11 +8,11 @@ use Rattle.words.specs.Tests.{pick}
 use Rattle.words.specs.Words.{placeOf}
 use Rattle.decimal.specs.declared.Form.the-variants.{I8}
 use Rattle.plan.specs.Plan.{volume}
-use Rattle.bodies.specs.Bodies.{numberAt}
+use Rattle.checks.specs.Parts.{numberAt}
 use Rattle.walk.specs.Rule.{fresh}
 use Rattle.walk.specs.Turn.{walkOf}
-use Rattle.walk.specs.declared.Stop.{Stop}
-use Rattle.walk.specs.declared.Stop.the-variants.{Wait, Pause, Complete, Refused as Refused′}
+use Rattle.turns.specs.declared.Stop.{Stop}
+use Rattle.turns.specs.declared.Stop.the-variants.{Wait, Pause, Complete, Refused as Refused′}
 use Rattle.walk.specs.declared.Walked.{Walked}
 use Rattle.sets.specs.declared.Agreement.{Agreement}
 use Rattle.sets.specs.declared.Agreement.the-variants.{Agrees, Refused}

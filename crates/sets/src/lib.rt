@@ -1,8 +1,8 @@
 // The set check (document 01, "Lines, rows, sets"): the record counts of a product's files, in pointer
 // order, against the product's closed directory.
 use decimal::Form;
+use turns::Stop;
 use walk::State;
-use walk::Stop;
 use words::Refusal;
 ghost use mathlib.Core.Path.{_≡_};
 ghost use Prim.Native.Nat.{_≤_};
@@ -34,7 +34,7 @@ fn compare(directory: &[u8], counts: &[u64]) -> Agreement
     let mut i = 0;
     while i < counts.len() {
         let byte = 360 * (i + 1) + 101;
-        if counts[i] != bodies::number_at(directory, byte, Form::I8) {
+        if counts[i] != checks::number_at(directory, byte, Form::I8) {
             return differing(words::place(byte) as u64);
         }
         i += 1;

@@ -6,8 +6,8 @@
 //   l LENGTH PIECE   the listing of the first LENGTH bytes, as if they arrived in pieces of at most PIECE
 //                    bytes; as in listing::list no more arrive than a turn wants, and once none are left
 //                    the turn is asked again, closed
-use listing::Row;
 use listing::Say;
+use rows::Row;
 use walk::State;
 
 // More turns than any listing of the bytes held takes: each but the last few takes a byte or a record.
@@ -29,7 +29,7 @@ fn say_start(line: &[u8; 96], n: usize) {
 
 fn print(row: Row) {
     let mut line = [0u8; 96];
-    let n = listing::spell(row, &mut line);
+    let n = rows::spell(row, &mut line);
     say_start(&line, n);
 }
 

@@ -13,9 +13,9 @@
 //   v                            the state's 42 numbers
 //   n INDEX VALUE                one of them is set
 use script::Taken;
+use turns::Stop;
 use walk::Beginning;
 use walk::State;
-use walk::Stop;
 use walk::Walked;
 
 fn say_walked(w: Walked) {

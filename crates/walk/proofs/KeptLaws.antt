@@ -9,8 +9,8 @@ use Rattle.words.proofs.Laws.{cases}
 use Rattle.walk.specs.Rule.{goodState, nextSpot}
 use Rattle.walk.specs.Turn.{turnOf, nextOf, walkOf}
 use Rattle.walk.specs.declared.State.{State}
-use Rattle.walk.specs.declared.Turn.{Turn}
-use Rattle.walk.specs.declared.Turn.the-variants.{Pass, Halt}
+use Rattle.turns.specs.declared.Turn.{Turn}
+use Rattle.turns.specs.declared.Turn.the-variants.{Pass, Halt}
 use Rattle.walk.specs.declared.Walked.{Walked}
 use Rattle.walk.proofs.LoopLaws.{walk-bad, walk-pause, walk-halt, walk-pass}
 use Rattle.walk.proofs.TurnLaws.{good-next}
@@ -34,7 +34,7 @@ module _ (P : State → Type 0) (c : Bool)
 pub good-kept : (n : ℕ) (st : State) (b : List ℕ) (c : Bool) → goodState st ≡ true → goodState (walkOf n st b c .state) ≡ true
 good-kept n st b c g = kept (λ s. goodState s ≡ true) c (λ s y h t q. good-next s y c h t) n st b g
 
-next-kind : (st : State) (b : List ℕ) → nextOf st b .kind ≡ st .kind
+pub next-kind : (st : State) (b : List ℕ) → nextOf st b .kind ≡ st .kind
 unfolding nextOf
 next-kind st b = refl
 

@@ -1,5 +1,6 @@
 pub mod GoodLaws
-pub mod NearLaws
 pub mod TurnLaws
 pub mod LoopLaws
+pub mod AheadLaws
 pub mod KeptLaws
+pub mod BegunLaws

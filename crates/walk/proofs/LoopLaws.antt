@@ -1,20 +1,21 @@
 -- The walk, a turn at a time, and the loop that takes the turns: what is left of the walk, behind the records passed, is the whole walk.
 use Prim.Native.Nat.{ℕ, zero, suc, _+_, _-_, _≤_, _<_}
-use mathlib.Core.Path.{_≡_, sym, ap, _∙_}
+use mathlib.Core.Path.{_≡_, ap, _∙_}
 use mathlib.Core.List.{List}
 use mathlib.Core.Bool.{Bool, true, false}
 use native.Mathlib.Omega.{arith}
 use native.Mathlib.Nat.{zero-add}
-use lib.ListN.{length, take, drop, length-drop}
-use lib.Seq.{drop-drop, take-length}
+use lib.ListN.{length, drop, length-drop}
+use lib.Seq.{drop-drop}
+use Rattle.turns.specs.declared.Stop.{Stop}
+use Rattle.turns.specs.declared.Stop.the-variants.{Pause}
+use Rattle.turns.specs.declared.Turn.the-variants.{Pass, Halt}
+use Rattle.turns.proofs.TurnLaws.{pass-long}
+use Rattle.turns.proofs.LineLaws.{rest, rest-is}
 use Rattle.walk.specs.Rule.{goodState, nextSpot}
 use Rattle.walk.specs.Turn.{turnOf, nextOf, stopped, more, badStop, walkOf}
 use Rattle.walk.specs.declared.State.{State}
-use Rattle.walk.specs.declared.Stop.{Stop}
-use Rattle.walk.specs.declared.Stop.the-variants.{Pause}
-use Rattle.walk.specs.declared.Turn.the-variants.{Pass, Halt}
 use Rattle.walk.specs.declared.Walked.{Walked}
-use Rattle.walk.proofs.TurnLaws.{pass-long}
 
 module _ (st : State) (b : List ℕ) (c : Bool) where
   pub walk-bad : (f : ℕ) → goodState st ≡ false → walkOf f st b c ≡ stopped st badStop
@@ -46,13 +47,6 @@ more-stopped n st x = ap (λ (k : ℕ). record { state = st; count = k; stop = x
 
 less-one : (m n : ℕ) → n < m → m - n ≡ suc (m - (n + 1))
 less-one m n h = omega arith
-
--- what the code hands on as `&bytes[at..]`
-abbrev pub rest : List ℕ → ℕ → List ℕ
-rest b at = take (length b - at) (drop at b)
-
-pub rest-is : (b : List ℕ) (at : ℕ) → rest b at ≡ drop at b
-rest-is b at = ap (λ (k : ℕ). take k (drop at b)) (sym (length-drop at b)) ∙ take-length (drop at b)
 
 module _ (m n at : ℕ) (st : State) (b : List ℕ) (c : Bool) where
   pub turn-halt : (x : Stop) → n < m → goodState st ≡ true → turnOf st (rest b at) c ≡ Halt x

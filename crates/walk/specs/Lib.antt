@@ -1,4 +1,5 @@
--- The specs of `walk`: the state rule, one turn, the walk, and the words of its answers.
+-- The specs of `walk`: the state rule, one turn, the walk, records passed at once, and the words of its answers.
 pub mod Rule
 pub mod Turn
+pub mod Ahead
 pub mod Said

@@ -2,8 +2,8 @@
 use mathlib.Core.List.{[], _∷_}
 use lib.IntN.{pos}
 use Rattle.words.specs.Answer.{Answer, bare, refusedAs, waiting, paused, complete, begun}
-use Rattle.walk.specs.declared.Stop.{Stop}
-use Rattle.walk.specs.declared.Stop.the-variants.{Wait, Pause, Complete, Refused}
+use Rattle.turns.specs.declared.Stop.{Stop}
+use Rattle.turns.specs.declared.Stop.the-variants.{Wait, Pause, Complete, Refused}
 use Rattle.walk.specs.declared.Beginning.{Beginning}
 use Rattle.walk.specs.declared.Beginning.the-variants.{Fresh, Unknown}
 

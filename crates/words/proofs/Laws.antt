@@ -1,5 +1,5 @@
 -- What the numbers of several bytes are at the end of the bytes, by computing each byte that is not there as 0; and that an equation leaves one answer.
-use Prim.Native.Nat.{ℕ, _+_, _≤_}
+use Prim.Native.Nat.{ℕ, _+_, _*_, _≤_}
 use mathlib.Core.Path.{_≡_, refl, sym, ap, ap₂, _∙_}
 use mathlib.Core.List.{List}
 use mathlib.Core.Bool.{Bool, true, false, false≢true}
@@ -72,3 +72,8 @@ pick-false b x y h = ap (λ (t : Bool). pick t x y) h
 pub cases : (b : Bool) → (b ≡ true) ⊎ (b ≡ false)
 cases true = inl refl
 cases false = inr refl
+
+-- the four bytes one by one
+pub four-bytes : (b : List ℕ) (at : ℕ) → (byteAt b at * 256 + byteAt b (at + 1)) * 65536 + (byteAt b (at + 2) * 256 + byteAt b (at + 3)) ≡ fourAt b at
+unfolding fourAt twoAt
+four-bytes b at = let e : at + 3 ≡ at + 2 + 1 = omega arith in rw e

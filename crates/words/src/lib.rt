@@ -4,8 +4,9 @@
 // Every function is total. A byte that is not there counts as 0 in these sums; no layer shows such a
 // sum to anybody, since each tests that its bytes have come before it reads them.
 ghost use mathlib.Core.Path.{_≡_};
-ghost use Prim.Native.Nat.{_<_, _^_};
+ghost use Prim.Native.Nat.{_+_, _<_, _≤_, _^_};
 ghost use lib.Dec.{eqb};
+ghost use lib.ListN.{length};
 ghost use Rattle.words.specs.Words.{byteAt, twoAt, fourAt, placeOf};
 ghost use Rattle.words.specs.Tests.{bothOf, withinOf};
 
@@ -41,8 +42,19 @@ pub fn two(b: &[u8], at: usize) -> u64
     0
 }
 
-// The four bytes from a place on as one number, high byte first.
-pub fn four(b: &[u8], at: usize) -> u64
+// Four bytes that have all come: who reads many of them tests once, and not at each.
+pub fn four_there(b: &[u8], at: usize) -> u64
+    requires { ⌜ at + 4 ≤ length (now b) ⌝ }
+    ensures { λ r. ⌜ r ≡ fourAt (now (b .entry)) at ⌝ }
+    ensures { λ r. ⌜ r < 2 ^ 32 ⌝ }
+{
+    let front = b[at] as u64 * 256 + b[at + 1] as u64;
+    let back = b[at + 2] as u64 * 256 + b[at + 3] as u64;
+    front * 65536 + back
+}
+
+// The four bytes from a place on, some of which have not come.
+fn four_short(b: &[u8], at: usize) -> u64
     ensures { λ r. ⌜ r ≡ fourAt (now (b .entry)) at ⌝ }
     ensures { λ r. ⌜ r < 2 ^ 32 ⌝ }
 {
@@ -52,6 +64,20 @@ pub fn four(b: &[u8], at: usize) -> u64
         return high * 65536 + low;
     }
     0
+}
+
+// The four bytes from a place on as one number, high byte first.
+pub fn four(b: &[u8], at: usize) -> u64
+    ensures { λ r. ⌜ r ≡ fourAt (now (b .entry)) at ⌝ }
+    ensures { λ r. ⌜ r < 2 ^ 32 ⌝ }
+{
+    let len = b.len();
+    if 4 <= len {
+        if at <= len - 4 {
+            return four_there(b, at);
+        }
+    }
+    four_short(b, at)
 }
 
 // Document 01 counts bytes from 1, places from 0: this is the one crossing between the two.

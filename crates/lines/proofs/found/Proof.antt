@@ -3,12 +3,12 @@ use Prim.Native.Nat.{_+_}
 use mathlib.Core.Path.{_≡_, sym, ap, _∙_, subst}
 use Rattle.plan.specs.Plan.{image}
 use Rattle.plan.specs.declared.Codes.{Codes}
-use Rattle.bodies.specs.Tests.{andThen}
+use Rattle.checks.specs.Tests.{andThen}
 use Rattle.bodies.specs.Bodies.{bodyOf}
-use Rattle.bodies.specs.declared.Verdict.{Verdict}
-use Rattle.bodies.specs.declared.Verdict.the-variants.{Fine}
-use Rattle.walk.specs.Turn.{headerOf}
-use Rattle.walk.proofs.TurnLaws as walk-laws
+use Rattle.checks.specs.declared.Verdict.{Verdict}
+use Rattle.checks.specs.declared.Verdict.the-variants.{Fine}
+use Rattle.turns.specs.Turn.{headerOf}
+use Rattle.turns.proofs.TurnLaws as turn-laws
 use Rattle.lines.specs.View.{foundIn}
 use Rattle.lines.proofs.ViewLaws as laws
 use borrow.Author.Needs.{needs}
@@ -32,7 +32,7 @@ enum-told-2 c = search needs
 
 returns : tie.Need-returns
 unfolding foundIn
-returns c = c .before .before .header .ensures ∙ ap (λ (x : Codes). headerOf (c .before .before .before .before .before .args .k + 1) x (c .before .before .before .before .before .args .s .length) (c .before .before .before .before .before .args .r .now)) (c .before .before .before .codes-of .ensures) ∙ sym (laws.then-fault _ _ (subst (λ (v : Verdict). v ≡ Fine → ⊥) (c .before .before .header .ensures ∙ ap (λ (x : Codes). headerOf (c .before .before .before .before .before .args .k + 1) x (c .before .before .before .before .before .args .s .length) (c .before .before .before .before .before .args .r .now)) (c .before .before .before .codes-of .ensures)) (walk-laws.not-fine (c .enum-told2 .given .1))))
+returns c = c .before .before .header .ensures ∙ ap (λ (x : Codes). headerOf (c .before .before .before .before .before .args .k + 1) x (c .before .before .before .before .before .args .s .length) (c .before .before .before .before .before .args .r .now)) (c .before .before .before .codes-of .ensures) ∙ sym (laws.then-fault _ _ (subst (λ (v : Verdict). v ≡ Fine → ⊥) (c .before .before .header .ensures ∙ ap (λ (x : Codes). headerOf (c .before .before .before .before .before .args .k + 1) x (c .before .before .before .before .before .args .s .length) (c .before .before .before .before .before .args .r .now)) (c .before .before .before .codes-of .ensures)) (turn-laws.not-fine (c .enum-told2 .given .1))))
 
 judge-requires : tie.Need-judge-requires
 judge-requires c κs = search needs

@@ -1,4 +1,5 @@
 -- Where a line is shown its data pixels lie within the bytes held; else none are handed back.
+use Rattle.plan.specs.Plan.{group}
 use Rattle.lines.proofs.ViewLaws as views
 use mathlib.Core.Path.{sym, _∙_}
 use Rattle.lines.proofs.InsideLaws as laws
@@ -22,7 +23,7 @@ part-result-end : tie.Need-part-result-end
 part-result-end c = search needs
 
 returns : tie.Need-returns
-returns c = views.pixels-none (c .before .before .before .before .args .bytes .now) (c .before .before .before .before .args .k) _ (c .before .before .line-view .ensures) (c .before .match .keys2)
+returns c = views.pixels-none group (c .before .before .before .before .args .bytes .now) (c .before .before .before .before .args .k) _ (c .before .before .line-view .ensures) (c .before .match .keys2)
 
 mul-to : tie.Need-mul-to
 mul-to c = let h = laws.shown-within (c .before .before .before .before .before .args .bytes .now) (c .before .before .before .before .before .args .k) _ _ _ (sym (c .before .before .before .line-view .ensures) ∙ c .before .v .given .1) in search needs
@@ -40,7 +41,7 @@ part-result-end-2 : tie.Need-part-result-end-2
 part-result-end-2 c = laws.shown-within (c .before .before .before .before .before .args .bytes .now) (c .before .before .before .before .before .args .k) _ _ _ (sym (c .before .before .before .line-view .ensures) ∙ c .before .v .given .1)
 
 returns-2 : tie.Need-returns-2
-returns-2 c = views.pixels-shown (c .before .before .before .before .before .before .args .bytes .now) (c .before .before .before .before .before .before .args .k) _ (c .before .before .before .before .line-view .ensures) _ _ _ (c .before .before .v .given .1)
+returns-2 c = views.pixels-shown group (c .before .before .before .before .before .before .args .bytes .now) (c .before .before .before .before .before .before .args .k) _ (c .before .before .before .before .line-view .ensures) _ _ _ (c .before .before .v .given .1)
 
 pub pixels-spec : {M : Type 1} → statement M
 pixels-spec =

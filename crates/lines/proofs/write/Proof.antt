@@ -1,13 +1,12 @@
--- Each turn writes one sample more: the row so far is the samples written, then the old row behind them.
-use Prim.Native.Nat.{_+_, _-_, _*_, _≤_}
-use mathlib.Core.Path.{_≡_, refl}
-use mathlib.Core.List.{_++_}
+-- The fours, then one sample more each turn: the row so far is the samples written, then the old row behind them.
+use Prim.Native.Nat.{ℕ, _+_, _-_, _*_, _≤_}
+use mathlib.Core.Path.{_≡_, refl, ap, _∙_}
+use mathlib.Core.List.{List, _++_}
 use native.Mathlib.Omega.{arith}
 use borrow.Author.Needs.{needs}
 use lib.ListN.{length, drop}
-use Rattle.words.specs.Words.{twoAt}
 use Rattle.lines.specs.Row.{samples}
-use Rattle.lines.proofs.RowLaws.{row-none, row-more, row-all}
+use Rattle.lines.proofs.RowLaws.{row-again, row-behind, row-more, row-all}
 use Rattle.lines.proofs.write.Statement.{statement}
 use Rattle.lines.proofs.write.Tie as tie
 
@@ -17,38 +16,20 @@ Inv-loop px count row₀ j₀ row j = (j ≤ count) × (row ≡ samples j px ++ 
 abbrev μ-loop : tie.MeasureT-loop
 μ-loop px count row₀ j₀ row j = count - j
 
+write-fours-requires : tie.Need-write-fours-requires Inv-loop μ-loop
+write-fours-requires c κs = search needs
+
 loop-holds : tie.Need-loop-holds Inv-loop μ-loop
-loop-holds c = (search needs, row-none _ _, search needs)
+loop-holds c = (c .before .before .write-fours .ensures .0, row-again (c .before .before .write-fours .result) (c .before .before .before .before .before .before .args .px .now) (c .before .before .before .before .before .before .args .row .now) _ (c .before .before .write-fours .ensures .1), search needs)
 
-mul-high : tie.Need-mul-high Inv-loop μ-loop
-mul-high c = search needs
+mul-sample : tie.Need-mul-sample Inv-loop μ-loop
+mul-sample c = search needs
 
-shared-slice-read-high : tie.Need-shared-slice-read-high Inv-loop μ-loop
-shared-slice-read-high c = search needs
-
-mul-low : tie.Need-mul-low Inv-loop μ-loop
-mul-low c = search needs
-
-add-low : tie.Need-add-low Inv-loop μ-loop
-add-low c = search needs
-
-shared-slice-read-low : tie.Need-shared-slice-read-low Inv-loop μ-loop
-shared-slice-read-low c = search needs
-
-cast-row : tie.Need-cast-row Inv-loop μ-loop
-cast-row c = omega (arith, c .before .shared-slice-known .given (2 * c .before .before .before .loop .j))
+sample-requires : tie.Need-sample-requires Inv-loop μ-loop
+sample-requires c κs = search needs
 
 mul-row : tie.Need-mul-row Inv-loop μ-loop
-mul-row c = omega (arith, c .before .shared-slice-known .given (2 * c .before .before .before .loop .j))
-
-cast-row-2 : tie.Need-cast-row-2 Inv-loop μ-loop
-cast-row-2 c = omega (arith, c .shared-slice-known2 .given (2 * c .before .before .before .loop .j + 1))
-
-add-row : tie.Need-add-row Inv-loop μ-loop
-add-row c = omega (arith, c .before .shared-slice-known .given (2 * c .before .before .before .loop .j), c .shared-slice-known2 .given (2 * c .before .before .before .loop .j + 1))
-
-mul-row-2 : tie.Need-mul-row-2 Inv-loop μ-loop
-mul-row-2 c = search needs
+mul-row c = search needs
 
 slice-write-row : tie.Need-slice-write-row Inv-loop μ-loop
 slice-write-row c = search needs
@@ -60,14 +41,13 @@ loop-less : tie.Need-loop-less Inv-loop μ-loop
 loop-less c = search needs
 
 loop-again : tie.Need-loop-again Inv-loop μ-loop
-unfolding twoAt
-loop-again c = (search needs, row-more (c .before .before .before .loop .j) _ (c .before .before .before .before .args .px .now) (c .before .before .before .before .args .row .now) (c .before .before .before .loop .row) (omega (arith, c .before .before .before .before .pre .1)) (c .before .before .before .loop .inv .1) refl, search needs)
+loop-again c = (search needs, row-more (c .before .before .loop .j) _ _ (c .sample .result) (c .before .before .before .before .before .before .before .before .before .args .px .now) _ (c .before .before .loop .row) (omega arith) refl refl (c .before .before .loop .inv .1) (c .sample .ensures), search needs)
 
 same-length : tie.Need-same-length Inv-loop μ-loop
 same-length c = search needs
 
 returns : tie.Need-returns Inv-loop μ-loop
-returns c = row-all (c .before .loop .j) (c .before .before .args .count) (c .before .before .args .px .now) (c .before .before .args .row .now) (c .before .loop .row) (c .before .loop .inv .0) (omega arith) (c .before .loop .inv .1)
+returns c = row-all (c .before .loop .j) (c .before .before .before .before .before .before .before .before .args .count) (c .before .before .before .before .before .before .before .before .args .px .now) _ (c .before .loop .row) (c .before .loop .inv .0) (omega arith) (c .before .loop .inv .1) ∙ ap (λ (l : List ℕ). samples (c .before .before .before .before .before .before .before .before .args .count) (c .before .before .before .before .before .before .before .before .args .px .now) ++ l) (row-behind (c .before .before .before .before .write-fours .result) (c .before .before .before .before .before .before .before .before .args .px .now) (c .before .before .before .before .before .before .before .before .args .row .now) _ (c .before .before .before .before .write-fours .ensures .1) (c .before .before .before .before .before .before .before .before .args .count) (c .before .before .before .before .write-fours .ensures .0))
 
 pub write-spec : {M : Type 1} → statement M
 write-spec =
@@ -75,17 +55,11 @@ write-spec =
     (tie.spec
     Inv-loop
     μ-loop
+    write-fours-requires
     loop-holds
-    mul-high
-    shared-slice-read-high
-    mul-low
-    add-low
-    shared-slice-read-low
-    cast-row
+    mul-sample
+    sample-requires
     mul-row
-    cast-row-2
-    add-row
-    mul-row-2
     slice-write-row
     add-j
     loop-less

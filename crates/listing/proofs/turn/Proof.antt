@@ -1,7 +1,7 @@
 -- Too long, or what the walk by one record says: each return is the definition at that stop.
 use Prim.Native.Nat.{ℕ}
 use mathlib.Core.Path.{refl}
-use Rattle.listing.specs.declared.Row.the-variants.{Complete}
+use Rattle.rows.specs.declared.Row.the-variants.{Complete}
 use Rattle.listing.specs.declared.Say.the-variants.{Want, Next, Last}
 use mathlib.Core.Path.{sym, ap, _∙_}
 use Rattle.listing.proofs.TurnLaws as laws

@@ -3,9 +3,10 @@ use mathlib.Core.Path.{sym, _∙_}
 use mathlib.Core.List.{[], _∷_}
 use borrow.Author.Needs.{needs}
 use Rattle.bodies.proofs.volume.descriptor.Statement.{statement}
-use Rattle.bodies.specs.Bodies.{firstText, numbersTests, volumeTests}
+use Rattle.checks.specs.Parts.{firstText, numbersTests}
+use Rattle.bodies.specs.Bodies.{volumeTests}
 use Rattle.bodies.proofs.volume.descriptor.Tie as tie
-use Rattle.bodies.proofs.TestLaws as laws
+use Rattle.checks.proofs.TestLaws as laws
 
 first-text-requires : tie.Need-first-text-requires
 first-text-requires c κs = search needs

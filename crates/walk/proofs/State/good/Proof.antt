@@ -1,5 +1,5 @@
 -- The definition's two cases; the total is computed only of a plan that the rules allow, where nothing wraps.
-use Prim.Native.Nat.{zero, ℕ}
+use Prim.Native.Nat.{ℕ}
 use mathlib.Core.Path.{sym, _∙_, ap}
 use mathlib.Core.Bool.{Bool}
 use borrow.Author.Needs.{needs}

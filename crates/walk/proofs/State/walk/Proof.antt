@@ -1,21 +1,26 @@
--- What is left of the walk from the state reached, behind the records passed, is the whole walk: the loop's invariant. A bad state is answered before the loop, and a passed record leaves a good one.
-use Prim.Native.Nat.{ℕ, zero, _-_, _≤_}
-use mathlib.Core.Path.{_≡_, sym, ap, _∙_, subst}
-use mathlib.Core.Bool.{true}
-use native.Mathlib.Omega.{arith}
-use borrow.Author.Needs.{needs}
-use borrow.Author.Tests.{not-true, not-false}
-use lib.ListN.{length, drop}
-use Rattle.walk.proofs.State.walk.Statement.{statement}
-use native.Mathlib.Nat.{sub-zero}
-use Rattle.plan.specs.declared.Spot.{Spot}
-use Rattle.walk.specs.Rule.{goodState, nextSpot}
-use Rattle.walk.specs.Turn.{walkOf, more, stopped, judgeOf}
-use Rattle.walk.specs.declared.Stop.{Stop}
-use Rattle.walk.proofs.State.walk.Tie as tie
-use Rattle.walk.proofs.GoodLaws as good-laws
-use Rattle.walk.proofs.TurnLaws as turn-laws
+-- What is left of the walk from the state reached, behind the records passed, is the whole walk: the loop's invariant. A bad state is answered before the loop, a passed record leaves a good one, and lines that pass one after the other are as many turns.
+use Rattle.walk.specs.declared.State.{State}
+use Rattle.turns.proofs.LineLaws.{rest, rest-room}
+use Rattle.turns.proofs.TurnLaws.{pass-long}
+use Rattle.walk.proofs.AheadLaws.{turn-ahead}
 use Rattle.walk.proofs.LoopLaws as laws
+use Rattle.walk.proofs.TurnLaws as turn-laws
+use Rattle.walk.proofs.GoodLaws as good-laws
+use Rattle.turns.specs.declared.Stop.{Stop}
+use Rattle.walk.specs.Turn.{walkOf, more, stopped}
+use Rattle.turns.specs.Turn.{judgeOf}
+use Rattle.walk.specs.Rule.{goodState, nextSpot}
+use Rattle.plan.specs.declared.Spot.{Spot}
+use lib.ListN.{length, drop}
+use borrow.Author.Tests.{not-true, not-false}
+use borrow.Author.Needs.{needs}
+use native.Mathlib.Nat.{sub-zero}
+use native.Mathlib.Omega.{arith}
+use mathlib.Core.Bool.{true}
+use mathlib.Core.Path.{_≡_, sym, ap, _∙_, subst}
+use Prim.Native.Nat.{ℕ, _+_, _-_, _*_, _≤_}
+use Rattle.walk.proofs.State.walk.Statement.{statement}
+use Rattle.walk.proofs.State.walk.Tie as tie
 
 abbrev Inv-loop : tie.InvT-loop
 Inv-loop bytes closed budget st₀ n₀ at₀ st n at = (at ≤ length bytes) × (n ≤ budget) × (goodState st ≡ true) × (walkOf budget st₀ bytes closed ≡ more n (walkOf (budget - n) st (drop at bytes) closed))
@@ -59,55 +64,99 @@ enum-known-turn : tie.Need-enum-known-turn Inv-loop μ-loop
 enum-known-turn c = search needs
 
 returns-2 : tie.Need-returns-2 Inv-loop μ-loop
-returns-2 c =
-    let l = c .before .before .before .before .before .before .before .before .loop in
+returns-2 c = let l = c .before .before .before .before .before .before .before .before .loop in
     let a = c .before .before .before .before .before .before .before .before .before .before .before .before .args in
-    let t = sym (c .before .before .before .judge .ensures .0 ∙ ap (λ (x : Spot). judgeOf (l .st .kind) (l .st .plan) (l .st .passed) x (laws.rest (a .bytes .now) (l .at)) (a .closed)) (c .before .before .before .before .spot-of .ensures .0)) ∙ c .before .turn .given .1 in
+    let t = sym (c .before .before .before .judge .ensures .0 ∙ ap (λ (x : Spot). judgeOf (l .st .kind) (l .st .plan) (l .st .passed) x (rest (a .bytes .now) (l .at)) (a .closed)) (c .before .before .before .before .spot-of .ensures .0)) ∙ c .before .turn .given .1 in
     sym (l .inv .3 ∙ laws.turn-halt (a .budget) (l .n) (l .at) (l .st) (a .bytes .now) (a .closed) _ (c .before .before .before .before .before .before .before .loop-test .taken) (l .inv .2) t)
 
 enum-told : tie.Need-enum-told Inv-loop μ-loop
 enum-told c = search needs
 
 add-at : tie.Need-add-at Inv-loop μ-loop
-add-at c =
-    let l = c .before .before .before .before .before .before .before .loop in
+add-at c = let l = c .before .before .before .before .before .before .before .loop in
     let a = c .before .before .before .before .before .before .before .before .before .before .before .args in
-    let t = sym (c .before .before .judge .ensures .0 ∙ ap (λ (x : Spot). judgeOf (l .st .kind) (l .st .plan) (l .st .passed) x (laws.rest (a .bytes .now) (l .at)) (a .closed)) (c .before .before .before .spot-of .ensures .0)) ∙ c .enum-told .given .1 in
+    let t = sym (c .before .before .judge .ensures .0 ∙ ap (λ (x : Spot). judgeOf (l .st .kind) (l .st .plan) (l .st .passed) x (rest (a .bytes .now) (l .at)) (a .closed)) (c .before .before .before .spot-of .ensures .0)) ∙ c .enum-told .given .1 in
     omega (arith, laws.pass-room (a .budget) (l .n) (l .at) (l .st) (a .bytes .now) (a .closed) (c .before .before .before .spot-of .result .length) (l .inv .0) t (ap (λ (x : Spot). x .length) (c .before .before .before .spot-of .ensures .0)))
 
 next-requires : tie.Need-next-requires Inv-loop μ-loop
-next-requires c κs =
-    let l = c .before .before .before .before .before .before .before .loop in
+next-requires c κs = let l = c .before .before .before .before .before .before .before .loop in
     let a = c .before .before .before .before .before .before .before .before .before .before .before .args in
-    let t = sym (c .before .before .judge .ensures .0 ∙ ap (λ (x : Spot). judgeOf (l .st .kind) (l .st .plan) (l .st .passed) x (laws.rest (a .bytes .now) (l .at)) (a .closed)) (c .before .before .before .spot-of .ensures .0)) ∙ c .enum-told .given .1 in (
+    let t = sym (c .before .before .judge .ensures .0 ∙ ap (λ (x : Spot). judgeOf (l .st .kind) (l .st .plan) (l .st .passed) x (rest (a .bytes .now) (l .at)) (a .closed)) (c .before .before .before .spot-of .ensures .0)) ∙ c .enum-told .given .1 in (
       c .before .before .before .spot-of .ensures .0,
       (
         omega (arith, c .before .before .judge .ensures .1 (c .enum-told .given .1)),
-        subst (λ (x : Spot). x .length ≤ length (laws.rest (a .bytes .now) (l .at))) (sym (c .before .before .before .spot-of .ensures .0)) (turn-laws.pass-long (l .st .kind) (l .st .plan) (l .st .passed) (nextSpot (l .st)) (laws.rest (a .bytes .now) (l .at)) (a .closed) t),
+        subst (λ (x : Spot). x .length ≤ length (rest (a .bytes .now) (l .at))) (sym (c .before .before .before .spot-of .ensures .0)) (pass-long (l .st .kind) (l .st .plan) (l .st .passed) (nextSpot (l .st)) (rest (a .bytes .now) (l .at)) (a .closed) t),
       ),
     )
 
 add-n : tie.Need-add-n Inv-loop μ-loop
 add-n c = search needs
 
+sub-ahead : tie.Need-sub-ahead Inv-loop μ-loop
+sub-ahead c = let l = c .before .before .before .before .before .before .before .before .loop in
+    let a = c .before .before .before .before .before .before .before .before .before .before .before .before .args in
+    let t = sym (c .before .before .before .judge .ensures .0 ∙ ap (λ (x : Spot). judgeOf (l .st .kind) (l .st .plan) (l .st .passed) x (rest (a .bytes .now) (l .at)) (a .closed)) (c .before .before .before .before .spot-of .ensures .0)) ∙ c .before .enum-told .given .1 in
+    laws.pass-room (a .budget) (l .n) (l .at) (l .st) (a .bytes .now) (a .closed) (c .before .before .before .before .spot-of .result .length) (l .inv .0) t (ap (λ (x : Spot). x .length) (c .before .before .before .before .spot-of .ensures .0))
+
+part-ahead-start : tie.Need-part-ahead-start Inv-loop μ-loop
+part-ahead-start c = let l = c .before .before .before .before .before .before .before .before .loop in
+    let a = c .before .before .before .before .before .before .before .before .before .before .before .before .args in
+    let t = sym (c .before .before .before .judge .ensures .0 ∙ ap (λ (x : Spot). judgeOf (l .st .kind) (l .st .plan) (l .st .passed) x (rest (a .bytes .now) (l .at)) (a .closed)) (c .before .before .before .before .spot-of .ensures .0)) ∙ c .before .enum-told .given .1 in
+    omega (arith, laws.pass-room (a .budget) (l .n) (l .at) (l .st) (a .bytes .now) (a .closed) (c .before .before .before .before .spot-of .result .length) (l .inv .0) t (ap (λ (x : Spot). x .length) (c .before .before .before .before .spot-of .ensures .0)))
+
+part-ahead-end : tie.Need-part-ahead-end Inv-loop μ-loop
+part-ahead-end c = search needs
+
+sub-ahead-2 : tie.Need-sub-ahead-2 Inv-loop μ-loop
+sub-ahead-2 c = search needs
+
+ahead-requires : tie.Need-ahead-requires Inv-loop μ-loop
+ahead-requires c κs = let l = c .before .before .before .before .before .before .before .before .before .loop in
+    let a = c .before .before .before .before .before .before .before .before .before .before .before .before .before .args in
+    let t = sym (c .before .before .before .before .judge .ensures .0 ∙ ap (λ (x : Spot). judgeOf (l .st .kind) (l .st .plan) (l .st .passed) x (rest (a .bytes .now) (l .at)) (a .closed)) (c .before .before .before .before .before .spot-of .ensures .0)) ∙ c .before .before .enum-told .given .1 in
+    ap goodState (c .before .next .ensures) ∙ turn-laws.good-next (l .st) _ (a .closed) (l .inv .2) t
+
+mul-at : tie.Need-mul-at Inv-loop μ-loop
+mul-at c = let l = c .before .before .before .before .before .before .before .before .before .before .loop in
+    let a = c .before .before .before .before .before .before .before .before .before .before .before .before .before .before .args in
+    let t = sym (c .before .before .before .before .before .judge .ensures .0 ∙ ap (λ (x : Spot). judgeOf (l .st .kind) (l .st .plan) (l .st .passed) x (rest (a .bytes .now) (l .at)) (a .closed)) (c .before .before .before .before .before .before .spot-of .ensures .0)) ∙ c .before .before .before .enum-told .given .1 in
+    let h = laws.pass-room (a .budget) (l .n) (l .at) (l .st) (a .bytes .now) (a .closed) (c .before .before .before .before .before .before .spot-of .result .length) (l .inv .0) t (ap (λ (x : Spot). x .length) (c .before .before .before .before .before .before .spot-of .ensures .0)) in
+    omega (arith, rest-room (a .bytes .now) (l .at + c .before .before .before .before .before .before .spot-of .result .length) (c .ahead .result * c .before .before .next .result .plan .l) h (c .ahead .ensures .room), (c .before .before .before .before .before .before .before .before .before .before .before .before .before .before .good), (c .before .before .before .before .before .before .before .before .before .before .before .before .before .before .fits))
+
+add-at-2 : tie.Need-add-at-2 Inv-loop μ-loop
+add-at-2 c = let l = c .before .before .before .before .before .before .before .before .before .before .loop in
+    let a = c .before .before .before .before .before .before .before .before .before .before .before .before .before .before .args in
+    let t = sym (c .before .before .before .before .before .judge .ensures .0 ∙ ap (λ (x : Spot). judgeOf (l .st .kind) (l .st .plan) (l .st .passed) x (rest (a .bytes .now) (l .at)) (a .closed)) (c .before .before .before .before .before .before .spot-of .ensures .0)) ∙ c .before .before .before .enum-told .given .1 in
+    let h = laws.pass-room (a .budget) (l .n) (l .at) (l .st) (a .bytes .now) (a .closed) (c .before .before .before .before .before .before .spot-of .result .length) (l .inv .0) t (ap (λ (x : Spot). x .length) (c .before .before .before .before .before .before .spot-of .ensures .0)) in
+    omega (arith, rest-room (a .bytes .now) (l .at + c .before .before .before .before .before .before .spot-of .result .length) (c .ahead .result * c .before .before .next .result .plan .l) h (c .ahead .ensures .room), (c .before .before .before .before .before .before .before .before .before .before .before .before .before .before .good), (c .before .before .before .before .before .before .before .before .before .before .before .before .before .before .fits))
+
+add-st : tie.Need-add-st Inv-loop μ-loop
+add-st c = let l = c .before .before .before .before .before .before .before .before .before .before .before .loop in
+    let a = c .before .before .before .before .before .before .before .before .before .before .before .before .before .before .before .args in
+    let e = ap (λ (x : State). x .passed) (c .before .before .before .next .ensures) ∙ turn-laws.next-passed (l .st) (rest (a .bytes .now) (l .at)) in
+    omega (arith, e, c .before .ahead .ensures .small, c .before .before .before .before .before .before .judge .ensures .1 (c .before .before .before .before .enum-told .given .1))
+
+add-n-2 : tie.Need-add-n-2 Inv-loop μ-loop
+add-n-2 c = omega (arith, c .before .ahead .ensures .few, c .before .before .before .before .before .before .before .before .before .before .loop-test .taken, (c .before .before .before .before .before .before .before .before .before .before .before .before .before .before .before .fits))
+
 loop-less : tie.Need-loop-less Inv-loop μ-loop
-loop-less c = search needs
+loop-less c = omega (arith, c .before .ahead .ensures .few, c .before .before .before .before .before .before .before .before .before .before .loop-test .taken)
 
 loop-again : tie.Need-loop-again Inv-loop μ-loop
-loop-again c =
-    let l = c .before .before .before .before .before .before .before .before .loop in
-    let a = c .before .before .before .before .before .before .before .before .before .before .before .before .args in
-    let t = sym (c .before .before .before .judge .ensures .0 ∙ ap (λ (x : Spot). judgeOf (l .st .kind) (l .st .plan) (l .st .passed) x (laws.rest (a .bytes .now) (l .at)) (a .closed)) (c .before .before .before .before .spot-of .ensures .0)) ∙ c .before .enum-told .given .1 in
-    let e = ap (λ (x : Spot). x .length) (c .before .before .before .before .spot-of .ensures .0) in (
-      laws.pass-room (a .budget) (l .n) (l .at) (l .st) (a .bytes .now) (a .closed) (c .before .before .before .before .spot-of .result .length) (l .inv .0) t e,
-      omega arith,
-      ap goodState (c .next .ensures) ∙ turn-laws.good-next (l .st) _ (a .closed) (l .inv .2) t,
-      l .inv .3 ∙ laws.turn-pass (a .budget) (l .n) (l .at) (l .st) (a .bytes .now) (a .closed) (c .before .before .before .before .spot-of .result .length) (c .next .result) (c .before .before .before .before .before .before .before .loop-test .taken) (l .inv .2) t e (c .next .ensures),
+loop-again c = let l = c .before .before .before .before .before .before .before .before .before .before .before .loop in
+    let a = c .before .before .before .before .before .before .before .before .before .before .before .before .before .before .before .args in
+    let t = sym (c .before .before .before .before .before .before .judge .ensures .0 ∙ ap (λ (x : Spot). judgeOf (l .st .kind) (l .st .plan) (l .st .passed) x (rest (a .bytes .now) (l .at)) (a .closed)) (c .before .before .before .before .before .before .before .spot-of .ensures .0)) ∙ c .before .before .before .before .enum-told .given .1 in
+    let e = ap (λ (x : Spot). x .length) (c .before .before .before .before .before .before .before .spot-of .ensures .0) in
+    let h = laws.pass-room (a .budget) (l .n) (l .at) (l .st) (a .bytes .now) (a .closed) (c .before .before .before .before .before .before .before .spot-of .result .length) (l .inv .0) t e in (
+      rest-room (a .bytes .now) (l .at + c .before .before .before .before .before .before .before .spot-of .result .length) (c .before .ahead .result * c .before .before .before .next .result .plan .l) h (c .before .ahead .ensures .room),
+      omega (arith, c .before .ahead .ensures .few, c .before .before .before .before .before .before .before .before .before .before .loop-test .taken),
+      c .before .ahead .ensures .good,
+      l .inv .3 ∙ laws.turn-pass (a .budget) (l .n) (l .at) (l .st) (a .bytes .now) (a .closed) (c .before .before .before .before .before .before .before .spot-of .result .length) (c .before .before .before .next .result) (c .before .before .before .before .before .before .before .before .before .before .loop-test .taken) (l .inv .2) t e (c .before .before .before .next .ensures)
+          ∙ turn-ahead (a .budget) (l .n + 1) (l .at + c .before .before .before .before .before .before .before .spot-of .result .length) (c .before .ahead .result) (c .before .before .before .next .result) (a .bytes .now) (a .closed) (omega (arith, c .before .before .before .before .before .before .before .before .before .before .loop-test .taken)) (c .before .ahead .ensures),
     )
 
 returns-3 : tie.Need-returns-3 Inv-loop μ-loop
-returns-3 c =
-    let l = c .before .loop in
+returns-3 c = let l = c .before .loop in
     sym (l .inv .3 ∙ laws.walk-end (c .before .before .before .before .before .args .budget) (l .n) (l .at) (l .st) (c .before .before .before .before .before .args .bytes .now) (c .before .before .before .before .before .args .closed) (c .loop-test .left) (l .inv .2))
 
 pub walk-spec : {M : Type 1} → statement M
@@ -131,6 +180,15 @@ walk-spec =
     add-at
     next-requires
     add-n
+    sub-ahead
+    part-ahead-start
+    part-ahead-end
+    sub-ahead-2
+    ahead-requires
+    mul-at
+    add-at-2
+    add-st
+    add-n-2
     loop-less
     loop-again
     returns-3)

@@ -1,0 +1,23 @@
+/* The two that are timed, behind one table of functions so that both are called alike. */
+#ifndef READERS_H
+#define READERS_H
+
+#include "plain.h"
+#include "seobangyu.h"
+
+struct reader {
+  uint64_t (*begin)(uint64_t, uint64_t *, size_t, uint64_t *, size_t);
+  uint64_t (*walk)(uint64_t *, size_t, const uint8_t *, size_t, uint64_t, uint64_t, uint64_t *,
+                   size_t);
+  uint64_t (*field)(const uint8_t *, size_t, uint64_t, int64_t *, size_t, uint64_t *, size_t);
+  uint64_t (*line)(const uint8_t *, size_t, uint64_t, uint64_t *, size_t);
+  uint64_t (*row)(const uint8_t *, size_t, uint64_t, uint16_t *, size_t, uint64_t *, size_t);
+};
+
+extern const struct reader OURS, PLAIN;
+
+/* Asks both the same, on valid and on damaged input: how many questions were asked. Ends the program
+ * with a message where the answers, states, values or rows differ. */
+uint64_t agree(void);
+
+#endif

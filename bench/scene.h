@@ -1,0 +1,32 @@
+/* Scenes for the benchmark, made in memory. */
+#ifndef SCENE_H
+#define SCENE_H
+
+#include <stddef.h>
+#include <stdint.h>
+
+struct image {
+  size_t n, l, w, s; /* lines, bytes a line record, pixels a line, suffix bytes */
+  uint8_t *bytes;
+  size_t len;
+};
+
+/* The listed fields' two records. */
+#define SUMMARY 4096
+#define MAP 1620
+
+struct leader {
+  uint8_t summary[SUMMARY], map[MAP];
+};
+
+/* A valid image; line k has k * left fill pixels on the left and none on the right. Ends the program
+ * where there is no memory. */
+struct image make_image(size_t n, size_t l, size_t w, size_t s, size_t left);
+
+/* A record each of a leader with the thirteen listed fields written. */
+void make_leader(struct leader *x);
+
+/* The record in which a listed field stands. */
+const uint8_t *record_of(const struct leader *x, uint64_t number, size_t *len);
+
+#endif

@@ -1,0 +1,31 @@
+-- Each case is document 01's word for it.
+use Rattle.answers.specs.Told.{toldOf}
+use Rattle.sets.specs.declared.Agreement.{Agreement}
+use Rattle.sets.specs.Said.{agreementAs}
+use mathlib.Core.Path.{sym, ap, _∙_}
+use borrow.Author.Needs.{needs}
+use Rattle.answers.proofs.told_set.Statement.{statement}
+use Rattle.answers.proofs.told_set.Tie as tie
+
+enum-told : tie.Need-enum-told
+enum-told c = search needs
+
+tell-requires : tie.Need-tell-requires
+tell-requires c κs = search needs
+
+enum-known-x : tie.Need-enum-known-x
+enum-known-x c = search needs
+
+told-refusal-requires : tie.Need-told-refusal-requires
+told-refusal-requires c κs = search needs
+
+returns : tie.Need-returns
+returns c = c .tell .ensures ∙ ap (λ (y : Agreement). toldOf (agreementAs y) 0) (sym (c .before .enum-told .given .1))
+
+returns-2 : tie.Need-returns-2
+returns-2 c = c .told-refusal .ensures ∙ ap (λ (y : Agreement). toldOf (agreementAs y) 0) (sym (c .before .before .x .given .1))
+
+pub told-set-spec : {M : Type 1} → statement M
+told-set-spec =
+    tie.close
+    (tie.spec enum-told tell-requires enum-known-x told-refusal-requires returns returns-2)

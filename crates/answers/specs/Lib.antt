@@ -1,0 +1,2 @@
+-- The specs of `answers`: an answer's five numbers.
+pub mod Told

@@ -1,0 +1,51 @@
+-- Without room nothing is written; with it row and answer are the row copy's.
+use Rattle.capi.proofs.CallLaws as laws
+use Rattle.answers.specs.Told.{toldOf}
+use Rattle.lines.specs.declared.Copied.{Copied}
+use Rattle.lines.specs.Said.{copiedAs}
+use borrow.Author.Tests.{lt-leb, le-leb}
+use lib.ListN.{length}
+use mathlib.Core.Path.{ap, _∙_}
+use borrow.Author.Needs.{needs}
+use Rattle.capi.proofs.sbg_row.Statement.{statement}
+use Rattle.capi.proofs.sbg_row.Tie as tie
+
+returns : tie.Need-returns
+returns c = let f = lt-leb 5 (length (c .before .before .before .before .args .answer .now)) (c .if1 .taken) in
+    (laws.says-no _ f, (laws.stays _ _ _ f, laws.stays _ _ _ f))
+
+row-copy-requires : tie.Need-row-copy-requires
+row-copy-requires c κs = search needs
+
+told-copy-requires : tie.Need-told-copy-requires
+told-copy-requires c κs = search needs
+
+say-requires : tie.Need-say-requires
+say-requires c κs = search needs
+
+same-length : tie.Need-same-length
+same-length c = search needs
+
+same-length-2 : tie.Need-same-length-2
+same-length-2 c = search needs
+
+returns-2 : tie.Need-returns-2
+returns-2 c = let t = le-leb 5 (length (c .before .before .before .before .before .before .before .before .before .before .before .before .before .args .answer .now)) (c .before .before .before .before .before .before .before .before .before .if1 .left) in (
+  laws.says-yes _ t,
+  (
+    laws.turns _ _ (c .before .before .before .before .before .before .before .before .before .before .before .before .before .args .row .now) _ t (c .before .before .before .before .before .before .before .row-copy .ensures .1),
+    laws.answer-behind _ _ _ (c .before .before .before .before .before .before .before .before .before .before .before .before .before .args .answer .now) _ t (c .before .before .before .before .told-copy .ensures ∙ ap (λ (x : Copied). toldOf (copiedAs x) 0) (c .before .before .before .before .before .before .before .row-copy .ensures .0)) (c .before .before .say .ensures),
+  ),
+)
+
+pub sbg-row-spec : {M : Type 1} → statement M
+sbg-row-spec =
+    tie.close
+    (tie.spec
+    returns
+    row-copy-requires
+    told-copy-requires
+    say-requires
+    same-length
+    same-length-2
+    returns-2)

@@ -1,0 +1,3 @@
+-- The specs of `checks`: lists of tests, and the parts that the bodies of several records share.
+pub mod Tests
+pub mod Parts

@@ -1,0 +1,2 @@
+-- The specs of `image`: the tests of its records.
+pub mod Image

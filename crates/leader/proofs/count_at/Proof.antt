@@ -1,0 +1,15 @@
+-- The number at the pair's first byte.
+use borrow.Author.Needs.{needs}
+use Rattle.leader.proofs.count_at.Statement.{statement}
+use Rattle.leader.specs.Leader.{countAt}
+use Rattle.leader.proofs.count_at.Tie as tie
+
+number-at-requires : tie.Need-number-at-requires
+number-at-requires c κs = search needs
+
+returns : tie.Need-returns
+unfolding countAt
+returns c = c .number-at .ensures
+
+pub count-at-spec : {M : Type 1} → statement M
+count-at-spec = tie.close (tie.spec number-at-requires returns)

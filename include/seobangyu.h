@@ -1,0 +1,105 @@
+/* Seobangyu: a reader of CEOS SAR products (PALSAR, JERS-1), from C.
+ *
+ * Every function takes any bytes and any numbers and ends with an answer; nothing is allocated, kept
+ * or printed, so any number of threads may call. What each answers is proved (docs/PROMISES.md).
+ *
+ * The caller owes C's own rules, which no proof can cover: a pointer with its length is memory that
+ * may be read (written, where it is not const) for that many elements; the arrays of one call do not
+ * overlap; a pointer may be NULL only where its length is 0.
+ *
+ * An array that is too short gives 0, and nothing is written: neither state, value, row nor answer.
+ * Numbers past the 42nd of a state, the 5th of an answer and the 2nd of a value stay as they are.
+ */
+#ifndef SEOBANGYU_H
+#define SEOBANGYU_H
+
+#include <stddef.h>
+#include <stdint.h>
+
+#ifdef __cplusplus
+extern "C" {
+#endif
+
+/* How many numbers a state, an answer and a value have. */
+#define SBG_STATE 42
+#define SBG_ANSWER 5
+#define SBG_VALUE 2
+
+/* File kinds. */
+#define SBG_VOLUME 1
+#define SBG_LEADER 2
+#define SBG_IMAGE 3
+#define SBG_TRAILER 4
+
+/* A state: kind, records passed, pointers; count and length of slots 1, 2, 3, 4, 5, 7, then of the
+ * eleven facility pairs, count and length in turn; n, L, w, d, s. A state may be kept, copied and
+ * handed in again; any other 42 numbers are refused with 11. */
+enum {
+  SBG_KIND = 0,
+  SBG_PASSED = 1,
+  SBG_POINTERS = 2,
+  SBG_PAIRS = 3,
+  SBG_N = 37,
+  SBG_L = 38,
+  SBG_W = 39,
+  SBG_D = 40,
+  SBG_S = 41
+};
+
+/* An answer: tag, a, b, c, count. Numbers that an answer does not use are 0. */
+enum { SBG_TAG = 0, SBG_A = 1, SBG_B = 2, SBG_C = 3, SBG_COUNT = 4 };
+
+enum {
+  SBG_REFUSED = 0,  /* a: number (docs/REFUSALS.md), b: record (0 where none), c: place from 0 */
+  SBG_WAIT = 1,     /* a: how many bytes are missing */
+  SBG_PAUSE = 2,    /* the budget is used up */
+  SBG_COMPLETE = 3, /* all planned records are there, and the file is closed */
+  SBG_BEGUN = 4,    /* a fresh state */
+  SBG_IS_VALUE = 5, /* the number and its exponent are in the value array */
+  SBG_BLANK = 6,    /* the field is blank */
+  SBG_SHOWN = 7,    /* a: start of the data pixels in the file, b: data pixels, c: left fill;
+                       the right fill is w - c - b */
+  SBG_COPIED = 8,   /* a: samples */
+  SBG_AGREES = 9    /* the set agrees with its directory */
+};
+
+/* All but sbg_start return 1 when they answered, and 0 where an array is too short. */
+
+/* Begins a walk over a file of that kind: the state becomes the fresh one (answer SBG_BEGUN), or all
+ * zeros where there is no such kind (refused 1). What stood in the state is not looked at. */
+uint64_t sbg_begin(uint64_t kind, uint64_t *state, size_t state_len, uint64_t *answer,
+                   size_t answer_len);
+
+/* Walks on: bytes from the place sbg_start(state) on; closed is 0 while more bytes may come; at most
+ * budget records are passed. The state is moved in place; count is how many records this call passed.
+ * A refused or waiting record leaves the state before it: hand it in again with the bytes not passed
+ * and the new ones. One step is a budget of 1. */
+uint64_t sbg_walk(uint64_t *state, size_t state_len, const uint8_t *bytes, size_t len,
+                  uint64_t closed, uint64_t budget, uint64_t *answer, size_t answer_len);
+
+/* The place in the file of the next record's first byte; 0 for a fresh, bad or short state. */
+uint64_t sbg_start(const uint64_t *state, size_t state_len);
+
+/* Listed field 1 to 13 of the record that the bytes are (docs/REFUSALS.md, 14, for another number).
+ * A value is value[0] units in the last written place, times ten to the power value[1]. */
+uint64_t sbg_field(const uint8_t *bytes, size_t len, uint64_t number, int64_t *value,
+                   size_t value_len, uint64_t *answer, size_t answer_len);
+
+/* Line 1 to n of an image whose bytes are held from byte 0, as far as they have come. */
+uint64_t sbg_line(const uint8_t *bytes, size_t len, uint64_t line, uint64_t *answer,
+                  size_t answer_len);
+
+/* The line's data pixels as numbers to the row's start; samples past them stay. A row that is too
+ * short is refused with 15; on a wait or a refusal every sample stays. */
+uint64_t sbg_row(const uint8_t *bytes, size_t len, uint64_t line, uint16_t *row, size_t row_len,
+                 uint64_t *answer, size_t answer_len);
+
+/* A closed directory (volume file), and the record counts of the product's files in pointer order. */
+uint64_t sbg_set(const uint8_t *bytes, size_t len, const uint64_t *counts, size_t counts_len,
+                 uint64_t *answer, size_t answer_len);
+
+#ifdef __cplusplus
+}
+#endif
+
+#endif

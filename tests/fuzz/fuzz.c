@@ -1,0 +1,443 @@
+/* A fuzz run of the boundary, without an oracle: for any bytes, kinds, states, budgets and cuts the answers must
+ * fit together as document 01 says. Run by scripts/fuzz with libFuzzer; with -DALONE it has a main of its own
+ * that alters the seeds by drawn numbers, where there is no libFuzzer.
+ *
+ * An input is 16 bytes of choices (struct Choices) and the bytes of a file. */
+#define _DEFAULT_SOURCE
+#include "../guard.h"
+#include "seobangyu.h"
+
+#include <time.h>
+
+#define MANY UINT64_MAX
+enum { FRONT = 16, MOST = 40000, ROW = 2000, SAMPLE = 0x5AA5 };
+static const uint64_t POISON = 0xA5A5A5A5A5A5A5A5u;
+
+/* Which refusals a function gives, as bits: a first record's, a line's, and each one's own. */
+#define NO(number) (1u << (number))
+enum {
+  RECORD_NOS = NO(3) | NO(4) | NO(5) | NO(6) | NO(7) | NO(8),
+  WALK_NOS = RECORD_NOS | NO(2) | NO(9) | NO(10) | NO(11),
+  LINE_NOS = RECORD_NOS | NO(10) | NO(13),
+  SET_NOS = RECORD_NOS | NO(2) | NO(9) | NO(12)
+};
+
+typedef struct {
+  uint64_t kind, closed, budget, line, field, index, number;
+  size_t cut;
+} Choices;
+
+typedef struct {
+  uint64_t state[SBG_STATE], answer[SBG_ANSWER];
+} Walked;
+
+/* What an input led to, for libFuzzer: the library itself is not instrumented. */
+#ifndef ALONE
+__attribute__((section("__libfuzzer_extra_counters")))
+#endif
+static uint8_t counters[1 << 16];
+
+static void seen(unsigned sort, const uint64_t *answer, uint64_t place) {
+  unsigned at = sort * 31 + (unsigned)answer[SBG_TAG];
+  at = at * 16 + (unsigned)(answer[SBG_TAG] == SBG_REFUSED ? answer[SBG_A] : 0);
+  at = at * 64 + (unsigned)(answer[SBG_COUNT] < 63 ? answer[SBG_COUNT] : 63);
+  counters[(at * 769 + (unsigned)place) % sizeof counters] = 1;
+}
+
+static const char *property = "";
+
+static void hold(int holds, const char *what) {
+  if (holds) return;
+  fprintf(stderr, "BROKEN: %s: %s\n", property, what);
+  abort();
+}
+
+static int same(const uint64_t *a, const uint64_t *b, size_t many) { return !memcmp(a, b, 8 * many); }
+
+/* Bytes that end where memory ends. One arena is for the whole, one for parts of it. */
+static Arena whole_arena, part_arena;
+
+static const uint8_t *lend(Arena *arena, const uint8_t *bytes, size_t len) {
+  return len ? memcpy(fit(arena, len), bytes, len) : NULL;
+}
+
+/* Each function with its answer looked at: what every answer must be ---------------------------------------- */
+
+static void refused_of(const uint64_t *a, uint32_t numbers) {
+  hold(a[SBG_A] >= 1 && a[SBG_A] <= 15 && numbers >> a[SBG_A] & 1, "a refusal that this function does not give");
+  if (a[SBG_A] == 1 || a[SBG_A] == 11 || a[SBG_A] >= 13) hold(a[SBG_B] == 0 && a[SBG_C] == 0, "a refusal's record and place are 0");
+}
+
+/* Numbers that a tag does not use are 0. tags and numbers: bits of what may come. */
+static void shape(const uint64_t *a, uint32_t tags, uint32_t numbers) {
+  static const int used[] = {3, 1, 0, 0, 0, 0, 0, 3, 1, 0};
+  hold(a[SBG_TAG] <= 9 && tags >> a[SBG_TAG] & 1, "a tag that this function does not give");
+  for (int i = used[a[SBG_TAG]]; i < 3; i++) hold(a[1 + i] == 0, "an unused number is not 0");
+  if (a[SBG_TAG] == SBG_REFUSED) refused_of(a, numbers);
+}
+
+static Walked begun(uint64_t kind) {
+  Walked w;
+  memset(&w, 0xA5, sizeof w);
+  property = "begin";
+  hold(sbg_begin(kind, w.state, SBG_STATE, w.answer, SBG_ANSWER) == 1, "no answer");
+  shape(w.answer, 1 << SBG_REFUSED | 1 << SBG_BEGUN, NO(1));
+  int there = kind >= 1 && kind <= 4;
+  hold((w.answer[SBG_TAG] == SBG_BEGUN) == there, "a kind is 1 to 4");
+  hold(w.state[SBG_KIND] == (there ? kind : 0), "the state's kind");
+  for (int i = 1; i < SBG_STATE; i++) hold(w.state[i] == 0, "a fresh state is zeros");
+  return w;
+}
+
+static void walk_places(const Walked *from, const Walked *to, size_t len, uint64_t closed) {
+  const uint64_t *a = to->answer, begin = sbg_start(from->state, SBG_STATE), start = sbg_start(to->state, SBG_STATE);
+  if (a[SBG_TAG] == SBG_REFUSED && a[SBG_A] == 11) {
+    hold(a[SBG_COUNT] == 0 && same(from->state, to->state, SBG_STATE) && start == 0, "a bad state stays, and has no start");
+    return;
+  }
+  hold(start >= begin && start - begin <= len, "no more is passed than was there");
+  if (a[SBG_TAG] == SBG_REFUSED) {
+    hold(a[SBG_B] == to->state[SBG_PASSED] + 1, "the refused record is the next");
+    hold(a[SBG_C] >= start && a[SBG_C] - begin <= len, "the place lies in the bytes");
+    hold(a[SBG_A] != 2 || closed, "2 is for closed files");
+  }
+  if (a[SBG_TAG] == SBG_COMPLETE) hold(closed && start - begin == len, "complete: closed, and all is passed");
+  if (a[SBG_TAG] == SBG_WAIT) hold(!closed && (a[SBG_A] || start - begin == len), "wait: open, for 0 bytes only at the end");
+}
+
+static Walked walked(const Walked *from, const uint8_t *bytes, size_t len, uint64_t closed, uint64_t budget) {
+  Walked to = *from;
+  memset(to.answer, 0xA5, sizeof to.answer);
+  property = "walk";
+  hold(sbg_walk(to.state, SBG_STATE, bytes, len, closed, budget, to.answer, SBG_ANSWER) == 1, "no answer");
+  shape(to.answer, 1 << SBG_REFUSED | 1 << SBG_WAIT | 1 << SBG_PAUSE | 1 << SBG_COMPLETE, WALK_NOS);
+  hold(to.answer[SBG_COUNT] == to.state[SBG_PASSED] - from->state[SBG_PASSED], "the count is the passed numbers' difference");
+  hold(to.answer[SBG_COUNT] <= budget, "no more records than the budget");
+  int bad = to.answer[SBG_TAG] == SBG_REFUSED && to.answer[SBG_A] == 11;
+  hold((to.answer[SBG_TAG] == SBG_PAUSE) == (to.answer[SBG_COUNT] == budget && !bad), "pause exactly at the budget");
+  hold(to.state[SBG_KIND] == from->state[SBG_KIND], "the kind stays");
+  if (from->state[SBG_PASSED]) hold(same(from->state + 2, to.state + 2, SBG_STATE - 2), "the plan stays");
+  walk_places(from, &to, len, closed);
+  return to;
+}
+
+static int is_refused(const Walked *w) { return w->answer[SBG_TAG] == SBG_REFUSED; }
+
+/* Two walks that must end alike, whatever each call passed. */
+static void alike(const Walked *a, const Walked *b, const char *what) {
+  hold(same(a->state, b->state, SBG_STATE) && same(a->answer, b->answer, SBG_COUNT), what);
+}
+
+/* Properties ------------------------------------------------------------------------------------------------ */
+
+/* From this state on: the rest of the bytes, whose first is the place `base` in the file. */
+static Walked walk_on(const Walked *from, uint64_t base, const uint8_t *bytes, size_t len, uint64_t closed, uint64_t budget) {
+  uint64_t start = sbg_start(from->state, SBG_STATE), skip = start < base ? 0 : start - base;
+  size_t left = skip < len ? len - skip : 0;
+  return walked(from, lend(&part_arena, bytes + len - left, left), left, closed, budget);
+}
+
+static void check_pieces(const Walked *from, const uint8_t *bytes, size_t len, const Choices *c) {
+  uint64_t base = sbg_start(from->state, SBG_STATE);
+  Walked whole = walked(from, bytes, len, c->closed, MANY);
+  Walked part = walked(from, lend(&part_arena, bytes, c->cut), c->cut, 0, c->budget);
+  if (is_refused(&part) && part.answer[SBG_A] != 11) alike(&part, &whole, "more bytes never alter a refusal");
+  Walked rest = walk_on(&part, base, bytes, len, c->closed, MANY);
+  alike(&rest, &whole, "in pieces as whole");
+  Walked again = walk_on(&rest, base, bytes, len, c->closed, MANY);
+  property = "pieces";
+  alike(&again, &rest, "an answer is said again");
+  hold(again.answer[SBG_COUNT] == 0, "said again, nothing is passed");
+  Walked one = *from;
+  for (int i = 0; i < 64; i++) {
+    one = walk_on(&one, base, bytes, len, c->closed, 1);
+    if (one.answer[SBG_TAG] != SBG_PAUSE) break;
+  }
+  property = "pieces";
+  if (one.answer[SBG_TAG] != SBG_PAUSE) alike(&one, &whole, "record by record as whole");
+}
+
+/* Closed and open differ only where an open file waits. */
+static void check_closed(const Walked *from, const uint8_t *bytes, size_t len, const Choices *c) {
+  Walked open = walked(from, bytes, len, 0, c->budget), closed = walked(from, bytes, len, 1 + c->number, c->budget);
+  property = "closed";
+  if (1 + c->number == 0) return; /* that is open */
+  if (open.answer[SBG_TAG] != SBG_WAIT) {
+    alike(&open, &closed, "closing alters only a wait");
+  } else if (open.answer[SBG_A] == 0) {
+    hold(closed.answer[SBG_TAG] == SBG_COMPLETE, "a wait for 0 is complete when closed");
+  } else {
+    uint64_t due[] = {SBG_REFUSED, 2, open.state[SBG_PASSED] + 1, sbg_start(open.state, SBG_STATE)};
+    hold(same(closed.answer, due, SBG_COUNT), "a wait is 2 at the record's start when closed");
+  }
+  hold(same(open.state, closed.state, SBG_STATE), "the state is the same");
+}
+
+/* With the missing bytes a wait is over: another answer, or a longer wait behind a header. */
+static void check_wait(const Walked *from, const uint8_t *bytes, size_t len) {
+  Walked w = walked(from, bytes, len, 0, MANY);
+  if (w.answer[SBG_TAG] != SBG_WAIT || w.answer[SBG_A] == 0 || w.answer[SBG_A] > MOST) return;
+  size_t missing = w.answer[SBG_A], held = len - (sbg_start(w.state, SBG_STATE) - sbg_start(from->state, SBG_STATE));
+  uint8_t *more = fit(&part_arena, len + missing);
+  if (len) memcpy(more, bytes, len);
+  memset(more + len, 0x20, missing);
+  Walked next = walked(from, more, len + missing - 1, 0, MANY);
+  property = "wait";
+  if (missing > 1) hold(next.answer[SBG_TAG] == SBG_WAIT && next.answer[SBG_A] == 1, "a byte less waits for 1");
+  next = walked(from, more, len + missing, 0, MANY);
+  property = "wait";
+  int again = next.answer[SBG_TAG] == SBG_WAIT && next.answer[SBG_COUNT] == w.answer[SBG_COUNT];
+  hold(!again || held < 12, "what was missing is enough");
+}
+
+static void check_row(const uint8_t *bytes, size_t len, uint64_t line, const uint64_t *view, size_t row_len) {
+  static uint16_t row[ROW];
+  uint64_t a[SBG_ANSWER];
+  property = "row";
+  for (size_t i = 0; i < ROW; i++) row[i] = SAMPLE;
+  hold(sbg_row(bytes, len, line, row, row_len, a, SBG_ANSWER) == 1, "no answer");
+  shape(a, 1 << SBG_REFUSED | 1 << SBG_WAIT | 1 << SBG_COPIED, LINE_NOS | NO(15));
+  size_t many = 0;
+  if (view[SBG_TAG] != SBG_SHOWN) {
+    hold(same(a, view, SBG_ANSWER), "a row says what the view says");
+  } else if (row_len < view[SBG_B]) {
+    hold(a[SBG_TAG] == SBG_REFUSED && a[SBG_A] == 15, "too short a row is 15");
+  } else {
+    hold(a[SBG_TAG] == SBG_COPIED && a[SBG_A] == view[SBG_B], "the view's data pixels are copied");
+    many = view[SBG_B];
+  }
+  for (size_t j = 0; j < many; j++)
+    hold(row[j] == bytes[view[SBG_A] + 2 * j] * 256 + bytes[view[SBG_A] + 2 * j + 1], "a sample, high byte first");
+  for (size_t j = many; j < ROW; j++) hold(row[j] == SAMPLE, "later samples stay");
+}
+
+static void view_of(const uint8_t *bytes, size_t len, uint64_t line, uint64_t *view) {
+  property = "line";
+  hold(sbg_line(bytes, len, line, view, SBG_ANSWER) == 1, "no answer");
+  shape(view, 1 << SBG_REFUSED | 1 << SBG_WAIT | 1 << SBG_SHOWN, LINE_NOS);
+  hold(view[SBG_COUNT] == 0, "a view has no count");
+}
+
+static void check_line(const uint8_t *bytes, size_t len, const Choices *c) {
+  uint64_t view[SBG_ANSWER], early[SBG_ANSWER];
+  view_of(bytes, len, c->line, view);
+  seen(5, view, 0);
+  view_of(lend(&part_arena, bytes, c->cut), c->cut, c->line, early);
+  if (early[SBG_TAG] != SBG_WAIT) hold(same(early, view, SBG_ANSWER), "more bytes never alter a shown line or its refusal");
+  if (early[SBG_TAG] == SBG_WAIT && view[SBG_TAG] == SBG_SHOWN && c->cut >= 720)
+    hold(early[SBG_A] <= len - c->cut, "a wait is no longer than what came");
+  Walked image = begun(SBG_IMAGE), first = walked(&image, bytes, len, 0, 1);
+  property = "line";
+  if (first.answer[SBG_COUNT] == 0) hold(same(first.answer, view, SBG_ANSWER), "the first record as in the walk");
+  if (view[SBG_TAG] == SBG_SHOWN) {
+    uint64_t begin = 720 + (c->line - 1) * first.state[SBG_L], end = begin + first.state[SBG_L] - first.state[SBG_S];
+    hold(c->line >= 1 && c->line <= first.state[SBG_N], "a shown line is 1 to n");
+    hold(view[SBG_A] == end - first.state[SBG_D] + 2 * view[SBG_C], "the data pixels skip the left fill");
+    hold(view[SBG_C] + view[SBG_B] <= first.state[SBG_W] && end <= len && view[SBG_A] + 2 * view[SBG_B] <= end, "inside the record");
+  }
+  check_row(bytes, len, c->line, view, c->number % ROW);
+  check_row(bytes, len, c->line, view, view[SBG_TAG] == SBG_SHOWN && view[SBG_B] < ROW ? view[SBG_B] : 0);
+}
+
+static void field_of(const uint8_t *bytes, size_t len, uint64_t number, uint64_t *told, int64_t *value) {
+  property = "field";
+  value[0] = value[1] = (int64_t)POISON;
+  hold(sbg_field(bytes, len, number, value, SBG_VALUE, told, SBG_ANSWER) == 1, "no answer");
+  shape(told, 1 << SBG_REFUSED | 1 << SBG_IS_VALUE | 1 << SBG_BLANK, NO(14) | NO(2) | NO(6));
+  hold((told[SBG_A] == 14) == (number < 1 || number > 13), "14 exactly for no such field");
+  hold(told[SBG_B] == 0 && (told[SBG_C] == 0 || (told[SBG_A] == 6 && told[SBG_C] < len)), "record 0, place in the bytes");
+  if (told[SBG_TAG] == SBG_IS_VALUE) {
+    hold(value[0] < 10000000000000000 && value[0] > -1000000000000000, "at most sixteen digits, fifteen behind a sign");
+    hold(value[1] <= 99 && value[1] >= -99 && (value[1] == 0 || (number >= 5 && number <= 10)), "an exponent has two digits");
+  } else {
+    hold(value[0] == (int64_t)POISON && value[1] == (int64_t)POISON, "without a value the array stays");
+  }
+}
+
+/* A value is what C's own reading of the same text says: both are the double nearest to one decimal. */
+static void read_again(const uint8_t *bytes, uint64_t number, const int64_t *value) {
+  static const int first[] = {476, 710, 742, 934, 1886, 1906, 1926, 1946, 1966, 1986, 60, 76, 92};
+  static const int width[] = {8, 16, 16, 16, 20, 20, 20, 20, 20, 20, 16, 16, 16}, places[] = {3, 7, 7, 7, 13, 13, 13, 13, 13, 13, 0, 0, 7};
+  char text[21] = {0}, said[40];
+  memcpy(text, bytes + first[number - 1], (size_t)width[number - 1]);
+  snprintf(said, sizeof said, "%llde%lld", (long long)value[0], (long long)value[1] - places[number - 1]);
+  hold(strtod(text, NULL) == strtod(said, NULL), "the value is the text's");
+}
+
+static void check_field(const uint8_t *bytes, size_t len, const Choices *c) {
+  uint64_t told[SBG_ANSWER], early[SBG_ANSWER];
+  int64_t value[SBG_VALUE], early_value[SBG_VALUE];
+  field_of(bytes, len, c->field, told, value);
+  seen(6, told, c->field);
+  if (told[SBG_TAG] == SBG_IS_VALUE) read_again(bytes, c->field, value);
+  field_of(lend(&part_arena, bytes, c->cut), c->cut, c->field, early, early_value);
+  if (early[SBG_TAG] == SBG_REFUSED && early[SBG_A] == 2) return;
+  hold(same(early, told, SBG_ANSWER) && !memcmp(value, early_value, sizeof value), "more bytes never alter a field");
+}
+
+static void set_of(const uint8_t *bytes, size_t len, const uint64_t *counts, size_t many, uint64_t *told) {
+  property = "set";
+  hold(sbg_set(bytes, len, counts, many, told, SBG_ANSWER) == 1, "no answer");
+  shape(told, 1 << SBG_REFUSED | 1 << SBG_AGREES, SET_NOS);
+}
+
+/* The counts that agree are found by the places of the differences, then altered one by one. */
+static void check_set(const uint8_t *bytes, size_t len, const Choices *c) {
+  uint64_t told[SBG_ANSWER], counts[7] = {0};
+  Walked fresh = begun(SBG_VOLUME), dir = walked(&fresh, bytes, len, 1, MANY);
+  size_t many = dir.state[SBG_POINTERS];
+  set_of(bytes, len, counts, many, told);
+  if (dir.answer[SBG_TAG] != SBG_COMPLETE) {
+    hold(same(told, dir.answer, SBG_COUNT), "the directory's own refusal first");
+    return;
+  }
+  for (size_t p = 1; p <= many; p++) {
+    hold(told[SBG_TAG] == SBG_REFUSED && told[SBG_A] == 12 && told[SBG_B] == 0 && told[SBG_C] == 360 * p + 100, "12 at the first that differs");
+    char text[9] = {0};
+    memcpy(text, bytes + 360 * p + 100, 8);
+    counts[p - 1] = strtoull(text, NULL, 10);
+    set_of(bytes, len, counts, many, told);
+  }
+  hold(told[SBG_TAG] == SBG_AGREES, "a set agrees with its own counts");
+  set_of(bytes, len, counts, many + 1, told);
+  hold(told[SBG_A] == 12 && told[SBG_C] == 160, "a list too long");
+  set_of(bytes, len, counts, many - 1, told);
+  hold(told[SBG_A] == 12 && told[SBG_C] == 160, "a list too short");
+  size_t other = c->number % many;
+  counts[other] += 1 + c->number / many;
+  set_of(bytes, len, counts, many, told);
+  hold(told[SBG_A] == 12 && told[SBG_C] == 360 * (other + 1) + 100, "12 where one differs");
+}
+
+/* Arrays that are too short: 0, and nothing is written; past the used numbers nothing is written. */
+static void check_arrays(const Walked *from, const uint8_t *bytes, size_t len, const Choices *c) {
+  uint64_t state[SBG_STATE + 8], answer[SBG_ANSWER + 8], before[SBG_STATE + 8], poison[SBG_ANSWER + 8];
+  int64_t value[SBG_VALUE + 2];
+  size_t state_len = c->index % 50, answer_len = c->field % 13, value_len = c->line % 5;
+  memset(state, 0xA5, sizeof state), memset(answer, 0xA5, sizeof answer), memset(poison, 0xA5, sizeof poison), memset(value, 0xA5, sizeof value);
+  memcpy(state, from->state, sizeof from->state);
+  memcpy(before, state, sizeof state);
+  uint64_t told = sbg_walk(state, state_len, bytes, len, c->closed, c->budget, answer, answer_len);
+  property = "arrays";
+  hold(told == (state_len >= SBG_STATE && answer_len >= SBG_ANSWER), "0 exactly where an array is too short");
+  size_t used = told ? SBG_STATE : 0, said = told ? SBG_ANSWER : 0;
+  hold(same(state + used, before + used, SBG_STATE + 8 - used) && same(answer + said, poison + said, SBG_ANSWER + 8 - said), "the rest stays");
+  if (state_len < SBG_STATE) hold(sbg_start(state, state_len) == 0, "a short state has no start");
+  memset(answer, 0xA5, sizeof answer);
+  told = sbg_field(bytes, len, c->field, value, value_len, answer, answer_len);
+  hold(told == (value_len >= SBG_VALUE && answer_len >= SBG_ANSWER), "0 exactly where an array is too short");
+  used = told ? SBG_VALUE : 0, said = told ? SBG_ANSWER : 0;
+  for (size_t i = used; i < SBG_VALUE + 2; i++) hold(value[i] == (int64_t)POISON, "the rest stays");
+  hold(same(answer + said, poison + said, SBG_ANSWER + 8 - said), "the rest stays");
+}
+
+/* A state deep in a huge image: its start is past 32 bits. */
+static void check_far(const Walked *from, const uint8_t *bytes, size_t len, const Choices *c) {
+  Walked deep = *from;
+  if (deep.state[SBG_KIND] != SBG_IMAGE || deep.state[SBG_PASSED] == 0) return;
+  deep.state[SBG_N] = deep.state[SBG_L] = 999999;
+  deep.state[SBG_PASSED] = 1 + c->number % 1000000;
+  property = "far";
+  hold(sbg_start(deep.state, SBG_STATE) == 720 + (deep.state[SBG_PASSED] - 1) * 999999, "the start of a far line");
+  check_closed(&deep, bytes, len, c);
+}
+
+/* One number of a state altered: refused with 11, or a state like any other. */
+static void check_state(const Walked *from, const uint8_t *bytes, size_t len, const Choices *c) {
+  Walked other = *from;
+  other.state[c->index % SBG_STATE] = c->number;
+  Walked to = walked(&other, bytes, len, c->closed, c->budget);
+  seen(7, to.answer, c->index);
+  if (is_refused(&to) && to.answer[SBG_A] == 11) return;
+  check_closed(&other, bytes, len, c);
+  check_pieces(&other, bytes, len, c);
+}
+
+/* ------------------------------------------------------------------------------------------------------------ */
+
+static Choices choices_of(const uint8_t *front, size_t len) {
+  Choices c = {.kind = front[0] % 6, .closed = front[1] & 1, .budget = front[2] < 16 ? front[2] : MANY, .line = front[3], .field = front[4] % 16};
+  if (front[0] >= 240) c.kind |= (uint64_t)1 << 32;
+  if (front[2] == 16) c.budget = (uint64_t)1 << 32;
+  c.cut = len ? (front[5] * 256u + front[6]) % (len + 1) : 0;
+  c.index = front[7];
+  memcpy(&c.number, front + 8, 8);
+  if (front[1] & 2) c.number %= 1000003;
+  return c;
+}
+
+/* All that is asked behind the first records of a file, with what is left of the bytes. */
+static void check_rest(const Walked *fresh, const uint8_t *bytes, size_t len, Choices c) {
+  Walked some = walked(fresh, bytes, len, 0, c.budget);
+  uint64_t start = sbg_start(some.state, SBG_STATE);
+  const uint8_t *rest = bytes ? bytes + start : bytes;
+  size_t left = len - start;
+  c.cut = c.cut > start ? c.cut - start : 0;
+  check_arrays(&some, rest, left, &c);
+  check_state(&some, rest, left, &c);
+  check_far(&some, rest, left, &c);
+  for (c.field = 0; c.field < 15; c.field++) check_field(rest, left, &c);
+}
+
+int LLVMFuzzerTestOneInput(const uint8_t *data, size_t size);
+
+int LLVMFuzzerTestOneInput(const uint8_t *data, size_t size) {
+  if (size < FRONT || size > MOST) return 0;
+  size_t len = size - FRONT;
+  Choices c = choices_of(data, len);
+  const uint8_t *bytes = lend(&whole_arena, data + FRONT, len);
+  Walked fresh = begun(c.kind), whole = walked(&fresh, bytes, len, c.closed, MANY);
+  uint64_t begin = sbg_start(whole.state, SBG_STATE);
+  seen((unsigned)c.kind, whole.answer, is_refused(&whole) && whole.answer[SBG_C] >= begin ? whole.answer[SBG_C] - begin : 0);
+  check_pieces(&fresh, bytes, len, &c);
+  check_closed(&fresh, bytes, len, &c);
+  check_wait(&fresh, bytes, len);
+  check_line(bytes, len, &c);
+  check_set(bytes, len, &c);
+  check_arrays(&fresh, bytes, len, &c);
+  check_rest(&fresh, bytes, len, c);
+  hold(len == 0 || (!memcmp(bytes, data + FRONT, len) && !harmed_ahead(bytes)), "bytes were written");
+  return 0;
+}
+
+#ifdef ALONE
+/* Without libFuzzer: seeds altered by drawn numbers. fuzz SECONDS SEED FILE.. */
+static uint64_t drawn;
+
+static uint64_t draw(uint64_t below) {
+  drawn = drawn * 6364136223846793005u + 1442695040888963407u;
+  return (drawn >> 33) % below;
+}
+
+static void alter(uint8_t *data, size_t *size) {
+  static const uint8_t texts[] = " 0129+-.E";
+  for (uint64_t many = draw(6); many > 0; many--) data[draw(2) ? draw(*size) : draw(FRONT)] = draw(2) ? (uint8_t)draw(256) : texts[draw(9)];
+  if (draw(4) == 0) *size = FRONT + draw(*size - FRONT + 1);
+}
+
+static size_t load(const char *path, uint8_t *data) {
+  FILE *file = fopen(path, "rb");
+  if (!file) perror(path), exit(2);
+  size_t size = fread(data, 1, MOST, file);
+  fclose(file);
+  return size;
+}
+
+int main(int argc, char **argv) {
+  static uint8_t seed[MOST], data[MOST];
+  if (argc < 4) return fputs("fuzz SECONDS SEED FILE..\n", stderr), 2;
+  time_t end = time(NULL) + atol(argv[1]);
+  unsigned long runs = 0;
+  for (drawn = strtoull(argv[2], NULL, 10); time(NULL) < end;) {
+    size_t whole = load(argv[3 + draw((uint64_t)argc - 3)], seed);
+    for (int turn = 0; whole > FRONT && turn < 50; turn++, runs++) {
+      size_t size = whole;
+      memcpy(data, seed, size);
+      alter(data, &size);
+      LLVMFuzzerTestOneInput(data, size);
+    }
+  }
+  printf("Done %lu runs of drawn bytes\n", runs);
+  return 0;
+}
+#endif
