@@ -755,5 +755,5 @@ def any_state(rng: random.Random) -> State:
     for _ in range(rng.choice((0, 1, 1, 2))):
         at = rng.randrange(STATE_NUMBERS)
         near = state[at] + rng.choice((-1, 1))
-        state[at] = rng.choice((rng.choice(EDGES), max(0, near)))
+        state[at] = rng.choice((rng.choice(EDGES), min(max(0, near), 2**64 - 1)))
     return state
