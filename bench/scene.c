@@ -67,24 +67,42 @@ struct image make_image(size_t n, size_t l, size_t w, size_t s, size_t left) {
   return x;
 }
 
+/* A leader's field: the byte of its record, counted from 1, and what is written there. */
+struct written {
+  size_t byte;
+  const char *text;
+};
+
+static const struct written in_summary[] = {
+    {477, "  34.300"},
+    {711, "       0.2360571"},
+    {743, "       2.0000000"},
+    {935, "   16000.0000000"},
+    {1887, "-8.3000000000000E+01"},
+    {1907, " 1.2345678901234E-05"},
+    {1927, " 0.0000000000000E+00"},
+    {1947, "-7.7120000000001E-12"},
+    {1967, " 9.9999999999999E+02"},
+    {1987, " 3.1415926535898E+00"},
+};
+
+static const struct written in_map[] = {
+    {61, "            6000"},
+    {77, "            3000"},
+    {93, "      12.5000000"},
+};
+
+static void put_all(uint8_t *record, const struct written *fields, size_t count) {
+  for (size_t i = 0; i < count; i++) put_text(record, fields[i].byte, fields[i].text);
+}
+
 void make_leader(struct leader *x) {
   memset(x->summary, ' ', SUMMARY);
   memset(x->map, ' ', MAP);
   open_record(x->summary, 2, 0x120a1214, SUMMARY);
   open_record(x->map, 3, 0x12141214, MAP);
-  put_text(x->summary, 477, "  34.300");
-  put_text(x->summary, 711, "       0.2360571");
-  put_text(x->summary, 743, "       2.0000000");
-  put_text(x->summary, 935, "   16000.0000000");
-  put_text(x->summary, 1887, "-8.3000000000000E+01");
-  put_text(x->summary, 1907, " 1.2345678901234E-05");
-  put_text(x->summary, 1927, " 0.0000000000000E+00");
-  put_text(x->summary, 1947, "-7.7120000000001E-12");
-  put_text(x->summary, 1967, " 9.9999999999999E+02");
-  put_text(x->summary, 1987, " 3.1415926535898E+00");
-  put_text(x->map, 61, "            6000");
-  put_text(x->map, 77, "            3000");
-  put_text(x->map, 93, "      12.5000000");
+  put_all(x->summary, in_summary, sizeof in_summary / sizeof *in_summary);
+  put_all(x->map, in_map, sizeof in_map / sizeof *in_map);
 }
 
 const uint8_t *record_of(const struct leader *x, uint64_t number, size_t *len) {

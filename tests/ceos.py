@@ -6,7 +6,6 @@ sets; files that are empty, missing, no file, or change while they are read; lar
 terminal. It says what it tried and how many checks that were, and exits with 1 at the first difference."""
 import fcntl
 import os
-import platform
 import pty
 import random
 import re
@@ -23,43 +22,20 @@ from typing import Any, Callable, Iterator, Optional, Sequence
 sys.dont_write_bytecode = True
 import listing  # noqa: E402
 from commands import TESTS  # noqa: E402
+from running import NATIVE, Ran, Wrong, all_parts, checks, hold  # noqa: E402
 import ceos as oracle  # noqa: E402  (tests/oracle/ceos.py: commands.py puts that folder first)
 import make  # noqa: E402
 from ceos import EVERY_RECORD, IMAGE, LEADER, N, TRAILER, VOLUME, Answer, State  # noqa: E402
 
 HOME = TESTS.parent
 PROGRAM = str(HOME / 'target' / 'host' / 'ceos')
-NATIVE = platform.machine() == 'x86_64'
 BY = [] if NATIVE else [str(HOME / 'scripts' / 'run')]
 COMMAND = [*BY, PROGRAM]
 EVERY = 1 if NATIVE else 5  # under the emulator a fifth of the cases is run
 WORD = {VOLUME: 'volume', LEADER: 'leader', IMAGE: 'image', TRAILER: 'trailer'}
-LONG = 60.0 if platform.machine() == 'x86_64' else 600.0  # seconds after which a program that has not answered is taken to hang
+LONG = 60.0 if NATIVE else 600.0  # seconds after which a program that has not answered is taken to hang
 ACCEPTED, REFUSED, FAILED, WAITING = 0, 1, 2, 3
-checks = [0]
 folder = Path()  # for this run's files
-
-
-class Wrong(Exception):
-    """The program did something else than it must."""
-
-
-@dataclass(frozen=True)
-class Ran:
-    """What a run left: how it ended, its rows and its messages."""
-
-    status: int
-    rows: str
-    messages: str
-
-
-def hold(what: str, found: Any, due: Any) -> None:
-    """The two are the same; else they are shown from a little before where they part."""
-    checks[0] += 1
-    if found != due:
-        one, other = str(found), str(due)
-        at = max(0, len(os.path.commonprefix((one, other))) - 40)
-        raise Wrong(f'{what}: due ..{other[at:at + 200]}, found ..{one[at:at + 200]}')
 
 
 def matches(what: str, found: str, pattern: str) -> None:
@@ -634,14 +610,11 @@ def main() -> int:
     began = time.monotonic()
     with tempfile.TemporaryDirectory() as name:
         folder = Path(name)
-        for part in (build, walks, lists, long_records, lines, fields, sets, no_files, wrong_use, outputs, changing, large, far_places, progress, example):
-            try:
-                print(f'tests/ceos.py: {part()}', flush=True)
-            except (Wrong, subprocess.TimeoutExpired, OSError) as fault:
-                print(f'tests/ceos.py: {part.__name__}: {fault}')
-                return 1
-    print(f'tests/ceos.py: {checks[0]} checks in {time.monotonic() - began:.0f} s')
-    return 0
+        parts = (build, walks, lists, long_records, lines, fields, sets, no_files, wrong_use, outputs, changing, large, far_places, progress, example)
+        status = all_parts('tests/ceos.py', parts)
+    if status == 0:
+        print(f'tests/ceos.py: {checks[0]} checks in {time.monotonic() - began:.0f} s')
+    return status
 
 
 if __name__ == '__main__':

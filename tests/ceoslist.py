@@ -5,7 +5,6 @@ The cases of listing.py and drawn ones; an image sent byte by byte; a large one 
 output that fail. It says what it ran, and exits with 1 at the first difference. It needs `rt ci` or `rt check ceoslist` before it."""
 import fcntl
 import os
-import platform
 import random
 import resource
 import select
@@ -14,7 +13,6 @@ import sys
 import tempfile
 from concurrent.futures import ThreadPoolExecutor
 from contextlib import contextmanager
-from dataclasses import dataclass
 from pathlib import Path
 from threading import Thread, Timer
 from typing import IO, Any, Callable, Iterator, Sequence
@@ -26,33 +24,13 @@ import ceos  # noqa: E402
 import make  # noqa: E402
 from ceos import IMAGE  # noqa: E402
 from listing import Case  # noqa: E402
+from running import NATIVE, Ran, Wrong, all_parts, hold  # noqa: E402
 
 RUN = TESTS.parent / 'scripts' / 'run'
 COMMAND = [str(RUN), 'ceoslist']
-LONG = 20.0 if platform.machine() == 'x86_64' else 600.0  # seconds after which a program that has not answered is taken to hang
+LONG = 20.0 if NATIVE else 600.0  # seconds after which a program that has not answered is taken to hang
 SHORT = 0.03  # seconds in which a row would show that must not come yet
 READ_FAILED, WRITE_FAILED = b'ceoslist: read failed\n', b'ceoslist: write failed\n'
-
-
-class Wrong(Exception):
-    """The program did something else than it must."""
-
-
-@dataclass(frozen=True)
-class Ran:
-    """What a run left: how it ended, standard output, standard error."""
-
-    status: int
-    rows: bytes
-    errors: bytes
-
-
-def hold(what: str, found: Any, due: Any) -> None:
-    """The two are the same; else they are shown from a little before where they part."""
-    if found != due:
-        one, other = str(found), str(due)
-        at = max(0, len(os.path.commonprefix((one, other))) - 40)
-        raise Wrong(f'{what}: due ..{other[at:at + 160]}, found ..{one[at:at + 160]}')
 
 
 # Running it ---------------------------------------------------------------------------------------------
@@ -304,13 +282,7 @@ def output_fails() -> str:
 
 def main() -> int:
     listing.make_all()
-    for part in (cases_of_the_maker, long_lines, drawn, byte_by_byte, ends_while_open, large, input_fails, output_fails):
-        try:
-            print(f'tests/ceoslist.py: {part()}', flush=True)
-        except (Wrong, subprocess.TimeoutExpired, OSError) as fault:
-            print(f'tests/ceoslist.py: {part.__name__}: {fault}')
-            return 1
-    return 0
+    return all_parts('tests/ceoslist.py', (cases_of_the_maker, long_lines, drawn, byte_by_byte, ends_while_open, large, input_fails, output_fails))
 
 
 if __name__ == '__main__':

@@ -1,7 +1,7 @@
 // An answer of the reader as C gets it (include/seobangyu.h): five numbers. Which tag and which numbers
 // each answer has follows from the words that its layer has for it.
+use copies::Copied;
 use fields::Field;
-use lines::Copied;
 use lines::View;
 use sets::Agreement;
 use turns::Stop;
@@ -12,7 +12,8 @@ ghost use mathlib.Core.List.{_++_};
 ghost use Prim.Native.Nat.{_≤_};
 ghost use lib.ListN.{length, drop};
 ghost use Rattle.words.specs.Answer.{refusedAs};
-ghost use Rattle.lines.specs.Said.{viewAs, copiedAs};
+ghost use Rattle.lines.specs.Said.{viewAs};
+ghost use Rattle.copies.specs.Said.{copiedAs};
 ghost use Rattle.sets.specs.Said.{agreementAs};
 ghost use Rattle.walk.specs.Said.{stopAs, beginningAs};
 ghost use Rattle.answers.specs.Told.{fieldSaid, fiveOf, toldOf};

@@ -4,8 +4,7 @@ use mathlib.Core.Path.{_≡_, refl, sym, ap, _∙_}
 use mathlib.Core.List.{List, [], _∷_, _++_}
 use native.Mathlib.Omega.{arith}
 use lib.ListN.{length, getD, set, drop}
-use lib.Seq.{getD-set-same, getD-set-other, ext-getD}
-use borrow.Author.Count.{below-more}
+use lib.Seq.{ext-getD}
 use Rattle.capi.specs.Numbers.{listFrom}
 
 pub from-length : (g : ℕ → ℕ) (i n : ℕ) → length (listFrom g i n) ≡ n
@@ -20,12 +19,6 @@ from-at g i (suc n) zero h = ap g (let e : i ≡ i + 0 = omega arith in e)
 from-at g i (suc n) (suc k) h = from-at g (suc i) n k (omega arith) ∙ ap g (let e : suc i + k ≡ i + suc k = omega arith in e)
 
 -- a table filled from the front with what a function says of each index is, once full, that list
-pub fill-more : (g : ℕ → ℕ) (a : List ℕ) (i v : ℕ) → i < length a → v ≡ g i → ((k : ℕ) → k < i → getD a k 0 ≡ g k) → (k : ℕ) → k < i + 1 → getD (set a i v) k 0 ≡ g k
-fill-more g a i v h e below =
-    below-more (λ (k : ℕ). getD (set a i v) k 0 ≡ g k) i
-    (λ k l. getD-set-other a i k v 0 (λ q. omega arith) ∙ below k l)
-    (getD-set-same a i v 0 h ∙ e)
-
 pub fill-done : (g : ℕ → ℕ) (a : List ℕ) (n : ℕ) → length a ≡ n → ((k : ℕ) → k < n → getD a k 0 ≡ g k) → a ≡ listFrom g 0 n
 fill-done g a n e below =
     ext-getD 0 a (listFrom g 0 n) (e ∙ sym (from-length g 0 n))

@@ -14,7 +14,7 @@ use Rattle.walk.specs.Rule.{startOf}
 use Rattle.walk.specs.Turn.{beginOf, walkOf}
 use Rattle.walk.specs.Said.{stopAs, beginningAs}
 use Rattle.walk.specs.declared.Walked.{Walked}
-use Rattle.lines.specs.Row.{rowOf}
+use Rattle.copies.specs.Row.{rowOf}
 use Rattle.answers.specs.Told.{fieldSaid, fiveOf, toldOf}
 use Rattle.capi.specs.Numbers.{stateIn, numbersOf}
 

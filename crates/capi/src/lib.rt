@@ -9,8 +9,9 @@ ghost use Prim.Native.Nat.{_<_, _≤_};
 ghost use lib.ListN.{length, drop};
 ghost use Rattle.plan.specs.Plan.{group};
 ghost use Rattle.lines.specs.View.{viewOf};
-ghost use Rattle.lines.specs.Row.{copiedOf};
-ghost use Rattle.lines.specs.Said.{viewAs, copiedAs};
+ghost use Rattle.copies.specs.Row.{copiedOf};
+ghost use Rattle.lines.specs.Said.{viewAs};
+ghost use Rattle.copies.specs.Said.{copiedAs};
 ghost use Rattle.sets.specs.Set.{setOf};
 ghost use Rattle.sets.specs.Said.{agreementAs};
 ghost use Rattle.capi.specs.Boundary.{fits, room, answered, begunState, begunAnswer, walkedState, walkedAnswer, startIn};
@@ -218,7 +219,7 @@ pub extern "C" fn sbg_row(bytes: &[u8], line: u64, row: &mut [u16], answer: &mut
         return 0;
     }
     answers::say(
-        answers::told_copy(lines::row_copy(bytes, line, row)),
+        answers::told_copy(copies::row_copy(bytes, line, row)),
         answer,
     );
     1

@@ -1,15 +1,12 @@
 -- What the tests of one number field say in each case of the field and of its sign, by computing them.
 use Prim.Native.Nat.{ℕ}
-use mathlib.Core.Path.{_≡_, refl, sym, ap, _∙_, subst}
+use mathlib.Core.Path.{_≡_, refl, sym, ap, _∙_}
 use mathlib.Core.List.{[], _∷_}
 use mathlib.Core.Bool.{Bool, true, false, true≢false}
 use mathlib.Core.Logic.{⊎-elim}
 use native.Mathlib.Omega.{arith}
 use lib.IntN.{ℤ, pos, negsuc, natAbs}
-use lib.Signed.{ltZ, nonNeg, natAbs-le}
-use lib.Dec.{T}
-use mir.Syntax.{w64}
-use mir.Val.{Fits, SFits}
+use lib.Signed.{ltZ}
 use borrow.Author.Tests.{ltb-true}
 use types.Run.{OneOf}
 use denote.Enum.Declared.{tagOf}
@@ -39,10 +36,6 @@ natural-of′ : (v : ℤ) → ltZ v (pos 0) ≡ false → natAbs v ≡ wholeOf v
 natural-of′ (pos n) h = refl
 natural-of′ (negsuc n) h = absurd (true≢false h)
 
-not-negative : (z : ℤ) → ltZ z (pos 0) ≡ false → T (nonNeg z)
-not-negative (pos n) h = tt
-not-negative (negsuc n) h = absurd (true≢false h)
-
 module _ (z v : ℤ) (e : z ≡ v) where
   read-back : {b : Bool} → ltZ z (pos 0) ≡ b → ltZ v (pos 0) ≡ b
   read-back h = ap (λ (x : ℤ). ltZ x (pos 0)) (sym e) ∙ h
@@ -58,9 +51,6 @@ module _ (z v : ℤ) (e : z ≡ v) where
 
   pub natural-of : ltZ z (pos 0) ≡ false → natAbs z ≡ wholeOf v
   natural-of h = ap natAbs e ∙ natural-of′ v (read-back h)
-
-  pub natural-fits : ltZ z (pos 0) ≡ false → SFits w64 v → T (nonNeg z) × Fits w64 (natAbs z)
-  natural-fits h s = (not-negative z h, subst (λ (x : ℤ). Fits w64 (natAbs x)) (sym e) (record { fits = omega (arith, natAbs-le v (s .sfits)) }))
 
 -- ---- range alone
 

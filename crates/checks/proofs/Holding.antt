@@ -7,13 +7,13 @@ use native.Mathlib.Omega.{arith}
 use lib.IntN.{pos, negsuc}
 use lib.ListN.{length, getD, take}
 use lib.Seq.{slice, length-slice, getD-drop, getD-take}
-use Rattle.words.specs.Tests.{pick}
+use Rattle.words.specs.Tests.{pick, bothOf}
 use Rattle.words.specs.Words.{placeOf}
-use Rattle.words.proofs.Laws.{within-true}
+use Rattle.words.proofs.Laws.{within-true, both-l, both-r, both-true}
 use Rattle.decimal.specs.declared.Form.the-variants.{I4}
 use Rattle.fields.specs.declared.Field.{Field}
 use Rattle.fields.specs.declared.Field.the-variants.{Value, Blank, Refused}
-use Rattle.checks.specs.Tests.{Test, firstFault, each, numberTests, countTests, numberOf}
+use Rattle.checks.specs.Tests.{Test, firstFault, allHold, each, numberTests, countTests, numberOf}
 use Rattle.checks.specs.Parts.{at, number, numbers, numberAt, numberRow, rowTests, numbersTests}
 use Rattle.checks.specs.declared.Verdict.{Verdict}
 use Rattle.checks.specs.declared.Verdict.the-variants.{Fine, Fault}
@@ -38,6 +38,20 @@ pub holds-fine : (ts : List Test) → Holds ts → firstFault ts ≡ Fine
 unfolding firstFault
 holds-fine [] h = refl
 holds-fine (t ∷ ts) h = ap (λ (b : Bool). pick b (firstFault ts) (Fault (t .number) (t .place))) (h .0) ∙ holds-fine ts (h .1)
+
+-- the same as one test
+all-holds : (ts : List Test) → allHold ts ≡ true → Holds ts
+unfolding allHold
+all-holds [] e = tt
+all-holds (t ∷ ts) e = (both-l (t .holds) (allHold ts) e, all-holds ts (both-r (t .holds) (allHold ts) e))
+
+pub all-fine : (ts : List Test) → allHold ts ≡ true → firstFault ts ≡ Fine
+all-fine ts e = holds-fine ts (all-holds ts e)
+
+-- three tests
+pub all-three : (a b c : Test) → bothOf (a .holds) (bothOf (b .holds) (c .holds)) ≡ allHold (a ∷ b ∷ c ∷ [])
+unfolding allHold
+all-three a b c = ap (λ (x : Bool). bothOf (a .holds) (bothOf (b .holds) x)) (both-true (c .holds))
 
 -- ---- lists one after the other
 

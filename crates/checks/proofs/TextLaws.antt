@@ -1,19 +1,15 @@
 -- A text is compared byte by byte: what is left to compare after each, by one step of the definition.
 use Prim.Native.Nat.{ℕ, _+_, _≤_, _<_}
 use mathlib.Core.Path.{_≡_, sym, ap}
-use mathlib.Core.List.{List, _∷_}
+use mathlib.Core.List.{List}
 use mathlib.Core.Bool.{true, false}
 use native.Mathlib.Omega.{arith}
-use native.Mathlib.Numerals.{add-one}
 use native.Mathlib.Nat.{add-zero}
 use lib.ListN.{length, getD, drop, drop-of-length-le}
-use lib.Seq.{drop-cons}
 use borrow.Author.Tests.{eq-eqb, ne-eqb}
 use Rattle.words.specs.Words.{byteAt}
+use Rattle.plan.proofs.RunLaws.{drop-more}
 use Rattle.checks.specs.Tests.{textAt}
-
-drop-more : (l : List ℕ) (i : ℕ) → i < length l → drop i l ≡ getD l i 0 ∷ drop (i + 1) l
-drop-more l i h = rw (add-one, drop-cons l i 0)
 
 module _ (r : List ℕ) (at : ℕ) (t : List ℕ) where
   pub text-start : textAt r at t ≡ textAt r (at + 0) (drop 0 t)

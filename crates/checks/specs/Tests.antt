@@ -25,6 +25,11 @@ unfoldable pub firstFault : List Test → Verdict
 firstFault [] = Fine
 firstFault (t ∷ ts) = pick (t .holds) (firstFault ts) (Fault (t .number) (t .place))
 
+-- whether every test holds
+unfoldable pub allHold : List Test → Bool
+allHold [] = true
+allHold (t ∷ ts) = bothOf (t .holds) (allHold ts)
+
 -- what is judged next where nothing was found
 abbrev pub andThen : Verdict → Verdict → Verdict
 andThen Fine v = v

@@ -5,11 +5,11 @@ use mathlib.Core.List.{List}
 use mathlib.Core.Bool.{Bool, true, false}
 use mathlib.Core.Logic.{_↔_}
 use native.Mathlib.Omega.{arith}
-use lib.Dec.{ltb, leb}
+use lib.Dec.{ltb}
 use lib.ListN.{length, replicate, length-replicate, drop, length-drop}
 use lib.Seq.{length-take-le}
 use lib.IntN.{ℤ}
-use borrow.Author.Tests.{ltb-true, ltb-false, leb-true, leb-false}
+use borrow.Author.Tests.{ltb-true, ltb-false}
 use Rattle.words.specs.Words.{placeOf}
 use Rattle.words.specs.Tests.{withinOf}
 use Rattle.words.proofs.Laws.{within-true, within-false}

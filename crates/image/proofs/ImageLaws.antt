@@ -3,14 +3,16 @@ use Prim.Native.Nat.{ℕ, _+_, _*_, _≤_, _<_}
 use mathlib.Core.Path.{_≡_}
 use mathlib.Core.List.{List}
 use native.Mathlib.Omega.{arith}
+use lib.Dec.{eqb}
 use borrow.Author.Tests.{eq-eqb, ne-eqb, le-leb, lt-leb}
+use Rattle.words.specs.Tests.{bothOf}
 use Rattle.words.specs.Words.{placeOf, fourAt}
 use Rattle.decimal.specs.declared.Form.the-variants.{I4, I6, I8}
-use Rattle.checks.specs.Tests.{firstFault}
+use Rattle.checks.specs.Tests.{firstFault, allHold}
 use Rattle.checks.specs.Parts.{numberAt, numberRow, numbersTests}
 use Rattle.image.specs.Image.{agreements, lineTests}
 use Rattle.checks.specs.declared.Verdict.the-variants.{Fine, Fault}
-use Rattle.checks.proofs.Holding.{Holds, row-holds}
+use Rattle.checks.proofs.Holding.{Holds, row-holds, all-three}
 
 -- the numbers that the agreements and the plan use
 pub record Bounded (r : List ℕ) : Type 0 where
@@ -90,3 +92,10 @@ module _ (w k : ℕ) (r : List ℕ) where
             eq-eqb (fourAt r (placeOf 17)) 1 b,
             eq-eqb (fourAt r (placeOf 21) + fourAt r (placeOf 25) + fourAt r (placeOf 29)) w e,
           )
+
+-- a line's three tests, of its numbers as the code read them
+pub line-holds : (w k : ℕ) (r : List ℕ) (n i l d g : ℕ) → n ≡ fourAt r (placeOf 13) → i ≡ fourAt r (placeOf 17)
+    → l ≡ fourAt r (placeOf 21) → d ≡ fourAt r (placeOf 25) → g ≡ fourAt r (placeOf 29)
+    → bothOf (eqb n k) (bothOf (eqb i 1) (eqb (l + d + g) w)) ≡ allHold (lineTests w k r)
+unfolding lineTests
+line-holds w k r n i l d g a b e f h = rw (a, b, e, f, h) (all-three _ _ _)

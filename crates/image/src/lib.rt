@@ -3,10 +3,9 @@
 use checks::Verdict;
 use decimal::Form;
 ghost use mathlib.Core.Path.{_≡_};
-ghost use mathlib.Core.Bool.{true};
 ghost use Prim.Native.Nat.{_≤_};
 ghost use lib.ListN.{length};
-ghost use Rattle.checks.specs.Tests.{firstFault};
+ghost use Rattle.checks.specs.Tests.{firstFault, allHold};
 ghost use Rattle.checks.specs.Parts.{numbersTests};
 ghost use Rattle.image.specs.Image.{imageTests, agreements, lineTests, imageRecord};
 ghost use Rattle.checks.specs.declared.Verdict.the-variants.{Fine};
@@ -75,10 +74,10 @@ fn line(w: u64, k: u64, r: &[u8]) -> Verdict
     Verdict::Fine
 }
 
-// A line's tests on bytes that have all come: what `line` would find nothing wrong with.
+// A line's tests on bytes that have all come: whether `line` would find nothing wrong.
 pub fn line_there(w: u64, k: u64, r: &[u8]) -> bool
     requires { ⌜ 32 ≤ length (now r) ⌝ }
-    ensures { λ x. ⌜ (x ≡ true → firstFault (lineTests w k (now (r .entry))) ≡ Fine) ⌝ }
+    ensures { λ x. ⌜ x ≡ allHold (lineTests w k (now (r .entry))) ⌝ }
 {
     let number = words::is(words::four_there(r, words::place(13)), k);
     let index = words::is(words::four_there(r, words::place(17)), 1);

@@ -1,14 +1,14 @@
 -- A shown line's data pixels lie inside its record, which is held whole: the fills add up to w, d is a sample's bytes times w, and d and s fit L. Over the sample size.
-use Prim.Native.Nat.{ℕ, zero, suc, _+_, _-_, _*_, _≤_, _<_}
+use Prim.Native.Nat.{ℕ, zero, suc, _+_, _-_, _*_, _≤_}
 use mathlib.Core.Path.{_≡_, refl, sym, ap, _∙_, subst}
 use mathlib.Core.List.{List}
 use native.Mathlib.Omega.{arith}
 use native.Mathlib.Nat.{mul-add}
 use lib.ListN.{length}
-use borrow.Author.Tests.{lt-ltb, eqb-true}
+use borrow.Author.Tests.{eqb-true}
 use Rattle.words.specs.Words.{fourAt, placeOf}
 use Rattle.words.proofs.Laws.{within-true}
-use Rattle.plan.specs.Plan.{image, group, firstLength, runCounts, runLengths, spotFrom, spotOf, codesOf}
+use Rattle.plan.specs.Plan.{image, group, spotOf, codesOf}
 use Rattle.plan.specs.declared.Plan.{Plan}
 use Rattle.plan.proofs.CodeLaws.{line-spot}
 use Rattle.plan.specs.declared.Spot.{Spot}

@@ -1,4 +1,3 @@
 pub mod LinedLaws
 pub mod ViewLaws
 pub mod InsideLaws
-pub mod RowLaws

@@ -5,11 +5,11 @@ use mathlib.Core.List.{List}
 use mathlib.Core.Bool.{true, false}
 use mathlib.Core.Logic.{⊎-elim}
 use native.Mathlib.Omega.{arith}
-use lib.Dec.{eqb, leb}
-use borrow.Author.Tests.{eqb-true, eqb-false, leb-true}
-use Rattle.words.specs.Tests.{bothOf, withinOf}
+use lib.Dec.{eqb}
+use borrow.Author.Tests.{eqb-true, eqb-false}
+use Rattle.words.specs.Tests.{withinOf}
 use Rattle.words.proofs.Laws.{both-l, both-r, cases}
-use Rattle.plan.specs.Plan.{image, group, ahead, slotsZero?, imageZero?, zeroPlan?, imageRanges, imageAgrees, imageGood, planGood, runCounts, runLengths, Small}
+use Rattle.plan.specs.Plan.{image, group, ahead, slotsZero?, imageZero?, zeroPlan?, planGood, runCounts, runLengths, Small}
 use Rattle.plan.specs.declared.Plan.{Plan}
 use Rattle.plan.proofs.GoodLaws.{image-agrees}
 use Rattle.walk.specs.Rule.{fresh, goodState}

@@ -27,7 +27,7 @@ use Rattle.turns.specs.declared.Stop.{Stop}
 use Rattle.turns.specs.declared.Stop.the-variants.{Wait as Wait′, Pause, Complete, Refused as Refused′}
 use Rattle.turns.proofs.Stop.{the-type}
 use Rattle.walk.proofs.BegunLaws.{begun-walks}
-use Rattle.turns.proofs.NearLaws.{header-near, body-near}
+use Rattle.turns.proofs.FaultLaws.{header-near, body-near}
 use Rattle.lines.specs.View.{leftOf, dataOf, pixelsFrom, shownOf, onVerdict, bareRefusal, foundIn, recordAt, lineAt, lineOf, behindFirst, firstOf, viewOf, shownBytes, pixelsOf}
 use Rattle.lines.proofs.View.{the-type as view-type}
 use Rattle.lines.specs.declared.View.{View}

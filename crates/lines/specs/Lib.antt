@@ -1,4 +1,3 @@
--- The specs of `lines`: what a line view shows, what the row copy writes, and the words of their answers.
+-- The specs of `lines`: what a line view shows, and the words of its answers.
 pub mod View
-pub mod Row
 pub mod Said

@@ -1,6 +1,6 @@
 // What the page shows of an image that is held from byte 0 (document 01, "Lines, rows, sets"): the data
-// pixels of one line as a part of the caller's bytes, and their copy as 16-bit numbers. Earlier lines
-// are not read: a line's place follows from the plan.
+// pixels of one line as a part of the caller's bytes. Earlier lines are not read: a line's place follows
+// from the plan.
 use checks::Verdict;
 use plan::Plan;
 use plan::Spot;
@@ -8,25 +8,15 @@ use turns::Stop;
 use walk::State;
 use words::Refusal;
 ghost use mathlib.Core.Path.{_≡_};
-ghost use mathlib.Core.List.{_++_};
 ghost use Prim.Native.Nat.{_+_, _*_, _≤_};
-ghost use lib.ListN.{length, drop};
-ghost use Rattle.words.specs.Words.{twoAt};
+ghost use lib.ListN.{length};
 ghost use Rattle.plan.specs.Plan.{image, group, Spotted};
 ghost use Rattle.lines.specs.View.{pixelsFrom, shownOf, foundIn, lineAt, lineOf, viewOf, pixelsOf, bareRefusal, Lined};
-ghost use Rattle.lines.specs.Row.{samples, copiedOf, rowOf};
 
 // What a line view answers: the place of its first data pixel in the file, the data count and the
 // left fill; or the bytes still missing; or why it is refused.
 pub enum View {
     Shown(u64, u64, u64),
-    Wait(u64),
-    Refused(Refusal),
-}
-
-// What the row copy answers: how many samples were copied; or a wait or a refusal, and nothing was.
-pub enum Copied {
-    Done(u64),
     Wait(u64),
     Refused(Refusal),
 }
@@ -141,66 +131,4 @@ pub fn pixels(bytes: &[u8], k: u64) -> &[u8]
     let from = start as usize;
     let to = (start + plan::GROUP * count) as usize;
     &bytes[from..to]
-}
-
-// A sample of two bytes that are there, high byte first.
-fn sample(px: &[u8], at: usize) -> u16
-    requires { ⌜ at + 2 ≤ length (now px) ⌝ }
-    ensures { λ r. ⌜ r ≡ twoAt (now (px .entry)) at ⌝ }
-{
-    let high = px[at];
-    let low = px[at + 1];
-    high as u16 * 256 + low as u16
-}
-
-// Four samples a turn while four are left, and how many that made: for speed alone (docs/SPEED.md),
-// since the compiler takes one sample a turn to slow code.
-fn write_fours(px: &[u8], count: usize, row: &mut [u16]) -> usize
-    requires { ⌜ (group * count ≤ length (now px)) × (count ≤ length (now row)) ⌝ }
-    ensures { λ n. ⌜ n ≤ count ⌝ }
-    ensures { λ n. ⌜ now (row .exit) ≡ samples n (now (px .entry)) ++ drop n (now (row .entry)) ⌝ }
-{
-    let mut j = 0;
-    while 4 <= count - j {
-        row[j] = sample(px, 2 * j);
-        row[j + 1] = sample(px, 2 * j + 2);
-        row[j + 2] = sample(px, 2 * j + 4);
-        row[j + 3] = sample(px, 2 * j + 6);
-        j += 4;
-    }
-    j
-}
-
-// That many samples of two bytes, high byte first, to the row's start; later samples stay.
-fn write(px: &[u8], count: usize, row: &mut [u16])
-    requires { ⌜ (group * count ≤ length (now px)) × (count ≤ length (now row)) ⌝ }
-    ensures { λ _. ⌜ now (row .exit) ≡ samples count (now (px .entry)) ++ drop count (now (row .entry)) ⌝ }
-{
-    let mut j = write_fours(px, count, row);
-    while j < count {
-        row[j] = sample(px, 2 * j);
-        j += 1;
-    }
-}
-
-// The row copy: the line's data pixels as 16-bit numbers to the start of the lent row. 15 comes last;
-// on a wait or a refusal every sample stays.
-pub fn row_copy(bytes: &[u8], k: u64, row: &mut [u16]) -> Copied
-    ensures { λ r. ⌜ r ≡ copiedOf (now (bytes .entry)) k (length (now (row .entry))) ⌝ }
-    ensures { λ r. ⌜ now (row .exit) ≡ rowOf (now (bytes .entry)) k (now (row .entry)) ⌝ }
-{
-    let v = line_view(bytes, k);
-    match v {
-        View::Wait(n) => Copied::Wait(n),
-        View::Refused(r) => Copied::Refused(r),
-        View::Shown(start, count, _) => {
-            if (row.len() as u64) < count {
-                return Copied::Refused(unplaced(15));
-            }
-            let from = start as usize;
-            let to = (start + plan::GROUP * count) as usize;
-            write(&bytes[from..to], count as usize, row);
-            Copied::Done(count)
-        }
-    }
 }

@@ -1,5 +1,5 @@
 -- `accepts`: for every kind, a closed walk from a fresh state ends "complete" exactly where the bytes are a file of that kind, given a budget of one more than the planned records; by induction over the budget one way, over the file's records the other.
-use Prim.Native.Nat.{ℕ, zero, suc, _+_, _≤_, _<_}
+use Prim.Native.Nat.{ℕ, zero, suc, _≤_, _<_}
 use mathlib.Core.Path.{_≡_, refl, sym, ap, _∙_, subst}
 use mathlib.Core.List.{List, [], _∷_, _++_}
 use mathlib.Core.Bool.{Bool, true}

@@ -2,14 +2,13 @@
 use Prim.Native.Nat.{ℕ, suc, _+_, _<_}
 use mathlib.Core.Path.{_≡_, refl, sym, ap, _∙_, subst}
 use mathlib.Core.List.{List, [], _++_, append-assoc, append-nil}
-use mathlib.Core.Bool.{Bool, true, false}
+use mathlib.Core.Bool.{true, false}
 use mathlib.Core.Logic.{_↔_}
 use native.Mathlib.Omega.{arith}
 use lib.ListN.{take, drop, take-append-drop}
-use Rattle.words.specs.declared.Refusal.{Refusal}
 use Rattle.plan.specs.Plan.{totalOf}
 use Rattle.walk.specs.Rule.{fresh}
-use Rattle.walk.specs.Turn.{walkOf, more}
+use Rattle.walk.specs.Turn.{walkOf}
 use Rattle.walk.specs.declared.State.{State}
 use Rattle.turns.specs.declared.Stop.{Stop}
 use Rattle.turns.specs.declared.Stop.the-variants.{Wait, Pause, Complete, Refused}

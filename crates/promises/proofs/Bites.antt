@@ -1,10 +1,9 @@
 -- The demands bite: our walk meets them, and each of document 01's wrong programs fails the one named for it, shown on the listed image and on the empty file.
-use Prim.Native.Nat.{ℕ, _+_, _<_}
-use mathlib.Core.Path.{_≡_, refl, sym, ap, _∙_}
-use mathlib.Core.Bool.{true, false}
-use mathlib.Core.List.{List, [], _∷_, _++_}
+use Prim.Native.Nat.{ℕ, _<_}
+use mathlib.Core.Path.{_≡_, refl}
+use mathlib.Core.Bool.{true}
+use mathlib.Core.List.{List, [], _++_}
 use native.Mathlib.Omega.{arith}
-use lib.ListN.{length}
 use Rattle.words.specs.declared.Refusal.{Refusal}
 use Rattle.words.specs.Words.{twoAt, fourAt, placeOf}
 use Rattle.decimal.specs.Scan.{written, decimalOf, numberOf, mantissaOf, exponentOf}
@@ -21,9 +20,9 @@ use Rattle.walk.specs.Rule.{fresh, goodState}
 use Rattle.turns.specs.Turn.{judgeOf, headerOf, headerTests, codesAre, endedOf, shortOf}
 use Rattle.walk.specs.Turn.{walkOf, nextOf, badStop}
 use Rattle.turns.specs.declared.Stop.{Stop}
-use Rattle.turns.specs.declared.Stop.the-variants.{Wait, Pause, Complete, Refused}
+use Rattle.turns.specs.declared.Stop.the-variants.{Complete}
 use Rattle.walk.specs.declared.Walked.{Walked}
-use Rattle.promises.specs.Rules.{Kind, image, trailer, kindNumber, Accepted}
+use Rattle.promises.specs.Rules.{image, trailer, Accepted}
 use Rattle.promises.specs.Examples.{descriptor, line, listed}
 use Rattle.promises.specs.Demands.{Walk, plannedTotal, Demand2, Counted, refuser, waiter, fixed, waver, boaster}
 use Rattle.promises.proofs.Accepts.{accepts, complete-accepted}
@@ -64,7 +63,8 @@ empty-refused : walkOf 9 (fresh 4) [] true .stop ≡ Complete → ⊥
 unfolding totalOf sumOf runCounts runLengths firstLength spotOf allZero zeroPlan? goodState walkOf judgeOf shortOf
 empty-refused e = let z : _≡_ {A = ℕ} 0 1 = cc in omega arith
 
-empty-planned : plannedTotal trailer [] < 9
+-- a trailer is one record, so nine is above what the empty file plans
+pub empty-planned : plannedTotal trailer [] < 9
 unfolding totalOf sumOf runCounts firstLength planOf
 empty-planned = omega arith
 

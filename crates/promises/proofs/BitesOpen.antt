@@ -1,25 +1,24 @@
 -- Demand 3 bites: our walk meets it, a walk that always waits fails it on a whole record that no file begins with, and one that always refuses or always pauses fails it on the empty file.
 use Prim.Native.Nat.{ℕ, _<_}
-use mathlib.Core.Path.{_≡_, refl, sym, ap, _∙_, subst}
+use mathlib.Core.Path.{_≡_, refl}
 use mathlib.Core.Bool.{true, false}
-use mathlib.Core.List.{List, [], _∷_, _++_}
+use mathlib.Core.List.{List, [], _∷_}
 use mathlib.Core.Logic.{inl, inr, ⊎-elim}
 use native.Mathlib.Omega.{arith}
-use lib.ListN.{length}
 use Rattle.words.specs.declared.Refusal.{Refusal}
 use Rattle.words.specs.Words.{twoAt, fourAt, placeOf}
-use Rattle.plan.specs.Tables.{slotOf, otherCodes}
+use Rattle.plan.specs.Tables.{otherCodes}
 use Rattle.plan.specs.Plan.{totalOf, sumOf, runCounts, runLengths, firstLength, spotOf, codesOf, allZero, zeroPlan?}
 use Rattle.checks.specs.Tests.{firstFault}
-use Rattle.bodies.specs.Named.{planOf}
 use Rattle.walk.specs.Rule.{fresh, goodState}
 use Rattle.turns.specs.Turn.{judgeOf, headerOf, headerTests}
 use Rattle.walk.specs.Turn.{walkOf}
-use Rattle.turns.specs.declared.Stop.the-variants.{Wait, Pause, Complete, Refused}
-use Rattle.promises.specs.Rules.{Kind, trailer, kindNumber}
-use Rattle.promises.specs.Arriving.{Own, begun, Starts, Waits, Refuses, AtRecordEnd}
+use Rattle.turns.specs.declared.Stop.the-variants.{Pause, Complete}
+use Rattle.promises.specs.Rules.{trailer}
+use Rattle.promises.specs.Arriving.{begun, Starts, Waits, Refuses, AtRecordEnd}
 use Rattle.promises.specs.Bytes.{Bytes}
-use Rattle.promises.specs.Demands.{Demand3, refuser, waiter, pauser, plannedTotal}
+use Rattle.promises.specs.Demands.{Demand3, refuser, waiter, pauser}
+use Rattle.promises.proofs.Bites.{empty-planned}
 use Rattle.promises.proofs.Arriving.{refused-none}
 use Rattle.promises.proofs.Accepts.{complete-accepted}
 use Rattle.promises.proofs.Completed.{some-file}
@@ -57,11 +56,6 @@ empty-starts = go (some-file 4 (omega arith) (omega arith))
 pub always-refusing-open : (r : Refusal) → Demand3 (refuser r) → ⊥
 always-refusing-open r d =
     d trailer [] 9 (inr (λ e. let z : _≡_ {A = ℕ} 0 1 = cc in omega arith)) ([], refl, tt) .1 .0 (r, refl) empty-starts
-
--- a trailer is one record, so nine is above what the empty file plans
-empty-planned : plannedTotal trailer [] < 9
-unfolding totalOf sumOf runCounts planOf
-empty-planned = omega arith
 
 pub always-pausing-open : Demand3 pauser → ⊥
 always-pausing-open d = go (d trailer [] 9 (inl empty-planned) ([], refl, tt) .0 .1 empty-starts)

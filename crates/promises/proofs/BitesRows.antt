@@ -19,7 +19,7 @@ use Rattle.walk.specs.Rule.{goodState}
 use Rattle.turns.specs.Turn.{judgeOf, headerOf, headerTests, codesAre, endedOf, shortOf}
 use Rattle.walk.specs.Turn.{walkOf, nextOf, badStop}
 use Rattle.lines.specs.View.{shownOf, foundIn, lineAt, lineOf, viewOf}
-use Rattle.lines.specs.Row.{samplesFrom, rowOf}
+use Rattle.copies.specs.Row.{samplesFrom, rowOf}
 use Rattle.lines.specs.declared.View.the-variants.{Shown}
 use Rattle.promises.specs.Examples.{listed}
 use Rattle.promises.specs.Shown.{LineShown}

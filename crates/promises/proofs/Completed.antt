@@ -29,7 +29,7 @@ use Rattle.turns.specs.declared.Turn.the-variants.{Pass}
 use Rattle.walk.specs.declared.Walked.{Walked}
 use Rattle.walk.proofs.GoodLaws.{good-known, good-some, good-later, fresh-good}
 use Rattle.walk.proofs.LoopLaws.{walk-halt, walk-pass}
-use Rattle.turns.proofs.TurnLaws.{judge-ended, judge-body}
+use Rattle.turns.proofs.TurnLaws.{judge-ended, judge-body, one-total}
 use Rattle.walk.proofs.TurnLaws.{next-as-first, next-as-later}
 use Rattle.promises.specs.Bytes.{Bytes}
 use Rattle.promises.proofs.Turns.{turn-pass-stays, next-stays}
@@ -134,10 +134,6 @@ module _ (kind : ℕ) (r : List ℕ) where
       go true e = omega arith
       go false e = omega arith
 
-some-total : (kind : ℕ) (p : Plan) → 1 ≤ totalOf kind p
-unfolding totalOf
-some-total kind p = omega arith
-
 -- some bytes and the budget that they need, no more than the most that a plan can promise, and one
 abbrev pub Enough : State → Type 0
 Enough st = (m : ℕ) × (m ≤ 17000002) × Done m st
@@ -155,13 +151,13 @@ module _ (kind : ℕ) (p : Plan) (a : 1 ≤ kind) (b : kind ≤ 4) where
           let gq : planGood kind q ≡ true = first-good kind p r a b (f p) in
           let d : ℕ = totalOf kind q - 1 in
           let small = total-small kind q (named-counts kind r) (small-good kind q gq) in
-          let t : turnOf st r false ≡ Pass = passes st g r y z (omega (arith, some-total kind p)) (first-twelve kind r z) (i p) (f p) in
+          let t : turnOf st r false ≡ Pass = passes st g r y z (omega (arith, one-total kind p)) (first-twelve kind r z) (i p) (f p) in
           let e : planOf kind r ≡ planOf kind (take (firstLength kind) r) = ap (planOf kind) (sym (ap (λ (n : ℕ). take n r) (sym z) ∙ take-length r)) in (
             suc (suc d),
             omega arith,
             one-more st g r y z t (suc d)
                 (subst (λ (s : State). Done (suc d) s) (next-as-first st r q refl e)
-                (at-later kind q a b gq (named-counts kind r) (named-lengths kind r) d 1 (omega arith) (omega (arith, some-total kind q)))),
+                (at-later kind q a b gq (named-counts kind r) (named-lengths kind r) d 1 (omega arith) (omega (arith, one-total kind q)))),
           )
 
   from-later : (k : ℕ) → length (p .counts) ≡ 17 → length (p .lengths) ≡ 17 → goodState (at kind p (suc k)) ≡ true → Enough (at kind p (suc k))

@@ -7,19 +7,15 @@ use mathlib.Core.Bool.{Bool, true, false}
 use native.Mathlib.Omega.{arith}
 use Rattle.words.specs.declared.Refusal.{Refusal}
 use Rattle.walk.specs.Rule.{goodState}
-use Rattle.walk.specs.Turn.{nextOf, badStop, walkOf}
+use Rattle.walk.specs.Turn.{badStop, walkOf}
 use Rattle.walk.specs.declared.State.{State}
 use Rattle.turns.specs.declared.Stop.the-variants.{Wait, Pause, Complete, Refused}
 use Rattle.turns.specs.declared.Turn.the-variants.{Halt}
 use Rattle.walk.proofs.LoopLaws.{walk-bad}
+use Rattle.walk.proofs.TurnLaws.{next-passed}
 use Rattle.promises.proofs.Steps.{by-turns}
 use Rattle.promises.proofs.Turns.{open-turn, turn-ordinal, never-pause, pause≢complete, pause≢refused, refused≢pause, refused≢complete, refused-same, wait≢refused, wait≢pause}
 use Rattle.promises.proofs.Passing.{closed-turn}
-
-module _ (st : State) (b : List ℕ) where
-  pub next-passed : nextOf st b .passed ≡ st .passed + 1
-  unfolding nextOf
-  next-passed = refl
 
 -- the count is the state's difference
 pub counted : (b : ℕ) (st : State) (bs : List ℕ) (c : Bool) → walkOf b st bs c .state .passed ≡ st .passed + walkOf b st bs c .count

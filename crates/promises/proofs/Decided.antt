@@ -1,5 +1,5 @@
 -- For every budget that does not pause, the closed walk is complete exactly on the accepted files; so acceptance is decided, by running the walk with a budget that is enough.
-use Prim.Native.Nat.{ℕ, suc, _+_, _<_}
+use Prim.Native.Nat.{ℕ, suc, _+_}
 use mathlib.Core.Path.{_≡_, refl, sym, ap, _∙_}
 use mathlib.Core.Bool.{true}
 use mathlib.Core.List.{List}

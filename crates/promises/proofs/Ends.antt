@@ -1,17 +1,16 @@
 -- `arriving`: bytes that end at a record's end leave nothing unpassed when the walk waits, since a record that is whole by its own length, or as long as is due, is never waited for; so a wait comes exactly when some accepted file begins with them, a refusal exactly when none does.
-use Prim.Native.Nat.{ℕ, zero, suc, _+_, _-_, _≤_, _<_}
+use Prim.Native.Nat.{ℕ, suc, _+_, _-_, _≤_}
 use mathlib.Core.Path.{_≡_, refl, sym, ap, ap₂, _∙_, subst}
 use mathlib.Core.List.{List, [], _∷_, _++_}
 use mathlib.Core.Bool.{Bool, true, false}
 use mathlib.Core.Logic.{_↔_, _⊎_, inl, inr, ⊎-elim}
 use native.Mathlib.Omega.{arith}
-use lib.Dec.{eqb, leb, ltb}
-use lib.ListN.{length, getD, take, drop, length-append, List·getD-append}
+use lib.Dec.{eqb, leb}
+use lib.ListN.{length, take, drop, length-append, List·getD-append}
 use lib.Seq.{take-at, drop-drop, drop-at, drop-append-add, length-take-le}
 use borrow.Author.Tests.{eqb-true, ltb-true, ltb-false}
 use Rattle.words.specs.Tests.{pick}
 use Rattle.words.specs.Words.{twoAt, fourAt, placeOf}
-use Rattle.words.proofs.Laws.{pick-true}
 use Rattle.plan.specs.Plan.{totalOf, codesOf, spotOf}
 use Rattle.plan.specs.declared.Codes.{Codes}
 use Rattle.plan.specs.declared.Plan.{Plan}
@@ -25,18 +24,18 @@ use Rattle.turns.specs.Turn.{refusedAt, endedOf, shortOf, onFine, headerTests, 
 use Rattle.walk.specs.Turn.{turnOf, nextOf, stopped, more, badStop, walkOf}
 use Rattle.walk.specs.declared.State.{State}
 use Rattle.turns.specs.declared.Stop.{Stop}
-use Rattle.turns.specs.declared.Stop.the-variants.{Wait, Pause, Complete, Refused}
+use Rattle.turns.specs.declared.Stop.the-variants.{Wait, Pause}
 use Rattle.turns.specs.declared.Turn.{Turn}
 use Rattle.turns.specs.declared.Turn.the-variants.{Pass, Halt}
 use Rattle.walk.specs.declared.Walked.{Walked}
-use Rattle.turns.proofs.TurnLaws.{pass-parts, pass-long}
-use Rattle.promises.specs.Rules.{Kind, kindNumber, Accepted, concat}
+use Rattle.turns.proofs.TurnLaws.{pass-parts}
+use Rattle.promises.specs.Rules.{Kind, kindNumber, concat}
 use Rattle.promises.specs.Pieces.{usedOf}
 use Rattle.promises.specs.Arriving.{Own, begun, again, Starts, Waits, Refuses, Chunks, AtRecordEnd}
 use Rattle.promises.proofs.Steps.{by-turns}
 use Rattle.promises.proofs.Pieces.{used-within}
 use Rattle.promises.proofs.Starts.{start-advances}
-use Rattle.promises.proofs.Own.{Reached, reached}
+use Rattle.promises.proofs.Own.{reached}
 use Rattle.promises.proofs.Arriving.{arriving-any}
 
 -- a header that has no fault names the due length

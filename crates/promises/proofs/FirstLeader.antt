@@ -9,7 +9,7 @@ use Rattle.words.specs.Words.{placeOf}
 use Rattle.decimal.specs.Text.{bytes}
 use Rattle.decimal.specs.Forms.{widthOf, sortOf}
 use Rattle.decimal.specs.declared.Sort.the-variants.{Whole}
-use Rattle.decimal.specs.declared.Form.the-variants.{I4, I6, I8}
+use Rattle.decimal.specs.declared.Form.the-variants.{I4}
 use Rattle.plan.specs.Tables.{otherCodes, slotOf}
 use Rattle.plan.specs.Plan.{codesOf}
 use Rattle.plan.specs.declared.Plan.{Plan}

@@ -135,7 +135,7 @@ module _ (kind : Kind) (p : Plan) (good : planGood (kindNumber kind) p ≡ true)
   pub due-long : due kind p k .long ≡ spot kind p k .length
   due-long = ap (λ (d : Due). d .long) due-is
 
-  long-is : Long kind (spot kind p k .run) (spot kind p k .length)
+  pub long-is : Long kind (spot kind p k .run) (spot kind p k .length)
   long-is =
       let f = found in
       let e : spot kind p k .run ≡ suc (f .j) = let z = f .run in omega arith in

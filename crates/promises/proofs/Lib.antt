@@ -8,6 +8,7 @@ pub mod Enough
 pub mod OneAnswer
 pub mod Starts
 pub mod Eleven
+pub mod Two
 pub mod Parts
 pub mod Each
 pub mod FirstVolume

@@ -19,10 +19,10 @@ use Rattle.turns.specs.declared.Stop.the-variants.{Wait as Wait′, Pause, Comp
 use Rattle.walk.specs.declared.State.{State}
 use Rattle.walk.specs.declared.Walked.{Walked}
 use Rattle.lines.specs.View.{foundIn, onVerdict, shownOf, lineOf, behindFirst, firstOf, viewOf, shownBytes, pixelsOf}
-use Rattle.lines.specs.Row.{samples, copiedBy, rowBy, copiedOf, rowOf}
+use Rattle.copies.specs.Row.{samples, copiedBy, rowBy, copiedOf, rowOf}
 use Rattle.lines.specs.declared.View.{View}
 use Rattle.lines.specs.declared.View.the-variants.{Shown, Wait, Refused}
-use Rattle.lines.specs.declared.Copied.the-variants.{Wait as Wait″}
+use Rattle.copies.specs.declared.Copied.the-variants.{Wait as Wait″}
 use Rattle.lines.proofs.ViewLaws.{line-in, line-out, at-short, at-whole}
 use Rattle.lines.proofs.InsideLaws.{line-within, shown-within}
 use Rattle.promises.specs.Rules.{image}

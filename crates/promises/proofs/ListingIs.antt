@@ -10,7 +10,7 @@ use lib.ListN.{length, take, drop, length-append, drop-of-length-le}
 use borrow.Author.Tests.{eqb-false, leb-true, leb-false, ltb-true, ne-eqb}
 use Rattle.words.specs.Tests.{pick}
 use Rattle.words.proofs.Laws.{cases}
-use Rattle.plan.specs.Plan.{image as image′, firstLength, totalOf, sumOf, runCounts, spotOf, codesOf}
+use Rattle.plan.specs.Plan.{image as image′, firstLength, totalOf, spotOf, codesOf}
 use Rattle.plan.specs.declared.Plan.{Plan}
 use Rattle.plan.specs.declared.Spot.{Spot}
 use Rattle.bodies.specs.Bodies.{bodyOf}

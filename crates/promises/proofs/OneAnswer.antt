@@ -19,7 +19,7 @@ use Rattle.walk.specs.Turn.{walkOf, beginOf}
 use Rattle.walk.specs.declared.State.{State}
 use Rattle.plan.specs.declared.Codes.{Codes}
 use Rattle.lines.specs.View.{viewOf, pixelsOf}
-use Rattle.lines.specs.Row.{copiedOf, rowOf}
+use Rattle.copies.specs.Row.{copiedOf, rowOf}
 use Rattle.sets.specs.Set.{setOf}
 use lib.ListN.{length}
 

@@ -1,14 +1,14 @@
 -- States of one's own: calls begun fresh, over any pieces, say together what one call on all the bytes passed says, since a record that passed passes again on its own bytes alone.
-use Prim.Native.Nat.{ℕ, zero, suc, _+_, _-_, _≤_, _<_}
+use Prim.Native.Nat.{ℕ, zero, suc, _+_, _≤_, _<_}
 use mathlib.Core.Path.{_≡_, refl, sym, ap, ap₂, _∙_}
-use mathlib.Core.List.{List, [], _∷_, _++_, append-assoc}
+use mathlib.Core.List.{List, _++_, append-assoc}
 use mathlib.Core.Bool.{Bool, true, false}
 use mathlib.Core.Logic.{⊎-elim}
-use native.Mathlib.Nat.{zero-add, suc-add}
+use native.Mathlib.Nat.{zero-add}
 use native.Mathlib.Omega.{arith}
 use lib.Dec.{eqb}
 use lib.ListN.{length, take, drop}
-use lib.Seq.{length-take-le, drop-at, take-length, take-take, take-nil}
+use lib.Seq.{length-take-le, drop-at, take-length, take-take, take-add}
 use borrow.Author.Tests.{eqb-true, eqb-false}
 use Rattle.words.specs.Tests.{pick}
 use Rattle.words.proofs.Laws.{cases, within-true}
@@ -29,7 +29,7 @@ use Rattle.turns.specs.declared.Turn.the-variants.{Pass}
 use Rattle.walk.specs.declared.Walked.{Walked}
 use Rattle.walk.proofs.GoodLaws.{good-known, good-later}
 use Rattle.turns.proofs.TurnLaws.{pass-parts, pass-long, pass-going, judge-body}
-use Rattle.walk.proofs.LoopLaws.{walk-pass, more-none}
+use Rattle.walk.proofs.LoopLaws.{walk-pass, more-more, more-none}
 use Rattle.promises.specs.Rules.{Kind, kindNumber}
 use Rattle.promises.specs.Pieces.{usedOf}
 use Rattle.promises.specs.Arriving.{Own, begun, again}
@@ -100,14 +100,6 @@ pass-alone st b c g r t =
 
 -- ---- the bytes passed are walked again alike, whatever follows them
 
-take-more : (n m : ℕ) (y : List ℕ) → take (n + m) y ≡ take n y ++ take m (drop n y)
-take-more zero m y = rw zero-add
-take-more (suc n) m [] = take-nil {A = ℕ} (suc n + m) ∙ sym (take-nil {A = ℕ} m)
-take-more (suc n) m (x ∷ xs) = rw suc-add (ap (λ (r : List ℕ). x ∷ r) (take-more n m xs))
-
-more-join : (n m : ℕ) (w : Walked) → more n (more m w) ≡ more (n + m) w
-more-join n m w = ap (λ (k : ℕ). record { state = w .state; count = k; stop = w .stop }) (let e : w .count + m + n ≡ w .count + (n + m) = omega arith in e)
-
 next-alone : (st : State) (b : List ℕ) → nextSpot st .length ≤ length b → nextOf st (take (nextSpot st .length) b) ≡ nextOf st b
 unfolding nextOf
 next-alone st b h =
@@ -130,13 +122,13 @@ alone-pass c n st b w u g t ih r d ys e =
     let rest = take u (drop l b) ++ ys in
     let long = pass-long (st .kind) (st .plan) (st .passed) (nextSpot st) b c t in
     let p = pass-alone st b c g r t in
-    let q : take (l + u) b ++ ys ≡ a ++ rest = ap (λ (z : List ℕ). z ++ ys) (take-more l u b) ∙ append-assoc a (take u (drop l b)) ys in
+    let q : take (l + u) b ++ ys ≡ a ++ rest = ap (λ (z : List ℕ). z ++ ys) (take-add l u b) ∙ append-assoc a (take u (drop l b)) ys in
     let k : w .count + 1 + d ≡ suc (w .count + d) = omega arith in
     ap₂ (λ (m : ℕ) (z : List ℕ). walkOf m st z e) k q
     ∙ walk-pass st (a ++ rest) e (w .count + d) g (turn-pass-stays st a rest e p)
     ∙ ap₂ (λ (s : State) (z : List ℕ). more 1 (walkOf (w .count + d) s z e)) (next-stays st a rest p ∙ next-alone st b long) (drop-at a rest l (length-take-le l b long))
     ∙ ap (more 1) (ih (rows-next st b r) d ys e)
-    ∙ more-join 1 (w .count) (walkOf d (w .state) ys e)
+    ∙ more-more 1 (w .count) (walkOf d (w .state) ys e)
     ∙ ap (λ (m : ℕ). more m (walkOf d (w .state) ys e)) (let z : 1 + w .count ≡ w .count + 1 = omega arith in z)
 
 alone : (c : Bool) (b : ℕ) (st : State) (bs : List ℕ) → Rows st → (d : ℕ) (ys : List ℕ) (e : Bool)
@@ -178,5 +170,5 @@ reached kind (again {st} {pre} o b bs c) =
           (let q : r .passed + w .count + d ≡ r .passed + (w .count + d) = omega arith in q) (append-assoc pre (take u bs) ys)
           ∙ r .walks (w .count + d) (take u bs ++ ys) e
           ∙ ap (more (r .passed)) (alone c b st bs (r .rows) d ys e)
-          ∙ more-join (r .passed) (w .count) (walkOf d (w .state) ys e);
+          ∙ more-more (r .passed) (w .count) (walkOf d (w .state) ys e);
     }

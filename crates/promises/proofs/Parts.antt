@@ -13,7 +13,7 @@ use lib.Seq.{drop-cons, getD-take}
 use borrow.Author.Tests.{eqb-true, eqb-false, eq-eqb, ne-eqb}
 use Rattle.words.specs.Tests.{pick, bothOf}
 use Rattle.words.specs.Words.{byteAt, twoAt, fourAt, placeOf}
-use Rattle.words.proofs.Laws.{both-l, both-r, both-make, within-true, true-within, cases}
+use Rattle.words.proofs.Laws.{both-l, both-r, both-make, within-true, true-within}
 use Rattle.decimal.specs.Forms.{widthOf, sortOf}
 use Rattle.decimal.specs.Scan.{written}
 use Rattle.decimal.specs.Grammar.{Good, blank as blanks, whole, fixed, expo, well, badly}

@@ -16,14 +16,11 @@ use Rattle.turns.specs.declared.Stop.{Stop}
 use Rattle.turns.specs.declared.Stop.the-variants.{Pause, Refused}
 use Rattle.turns.specs.declared.Turn.the-variants.{Pass, Halt}
 use Rattle.walk.specs.declared.Walked.{Walked}
-use Rattle.walk.proofs.LoopLaws.{walk-bad, walk-halt, walk-pass, more-none}
+use Rattle.walk.proofs.LoopLaws.{walk-bad, walk-halt, walk-pass, more-more, more-none}
 use Rattle.walk.proofs.TurnLaws.{good-next}
 use Rattle.promises.specs.Pieces.{usedOf}
 use Rattle.promises.proofs.Steps.{by-turns}
 use Rattle.promises.proofs.Turns.{turn-refusal-stays, turn-pass-stays, turn-room, next-stays, rest-stays, pause≢refused}
-
-more-one : (n : ℕ) (w : Walked) → more 1 (more n w) ≡ more (n + 1) w
-more-one n w = ap (λ (k : ℕ). record { state = w .state; count = k; stop = w .stop }) (let e : w .count + n + 1 ≡ w .count + (n + 1) = omega arith in e)
 
 -- u bytes behind a passed record
 onward : (st : State) (b ys : List ℕ) (u : ℕ) → turnOf st b false ≡ Pass → drop u (drop (nextSpot st .length) b ++ ys) ≡ drop (nextSpot st .length + u) (b ++ ys)
@@ -42,12 +39,13 @@ joined-pass : (n : ℕ) (st : State) (b : List ℕ) (w : Walked) (u : ℕ) → g
 unfolding Joined
 joined-pass n st b w u g t ih d ys e =
     let budget : w .count + 1 + d ≡ suc (w .count + d) = omega arith in
+    let passed : 1 + w .count ≡ w .count + 1 = omega arith in
     ap (λ (k : ℕ). walkOf k st (b ++ ys) e) budget
     ∙ walk-pass st (b ++ ys) e (w .count + d) g (turn-pass-stays st b ys e t)
     ∙ ap₂ (λ (s : State) (r : List ℕ). more 1 (walkOf (w .count + d) s r e)) (next-stays st b ys t) (rest-stays st b ys t)
     ∙ ap (more 1) (ih d ys e)
-    ∙ more-one (w .count) (walkOf d (w .state) (drop u (drop (nextSpot st .length) b ++ ys)) e)
-    ∙ ap (λ (r : List ℕ). more (w .count + 1) (walkOf d (w .state) r e)) (onward st b ys u t)
+    ∙ more-more 1 (w .count) (walkOf d (w .state) (drop u (drop (nextSpot st .length) b ++ ys)) e)
+    ∙ ap₂ (λ (k : ℕ) (r : List ℕ). more k (walkOf d (w .state) r e)) passed (onward st b ys u t)
 
 -- the first call passed `count` records and `usedOf` bytes: one call on all the bytes has the state and the stop of the second call, and `count` more records
 pub in-pieces : (b : ℕ) (st : State) (bs : List ℕ) (d : ℕ) (ys : List ℕ) (e : Bool)

@@ -17,6 +17,7 @@ use Rattle.turns.specs.declared.Turn.{Turn}
 use Rattle.turns.specs.declared.Turn.the-variants.{Pass, Halt}
 use Rattle.walk.specs.declared.Walked.{Walked}
 use Rattle.walk.proofs.LoopLaws.{walk-bad, walk-halt, walk-pass, walk-pause}
+use Rattle.walk.proofs.TurnLaws.{next-passed}
 use Rattle.turns.proofs.TurnLaws.{pass-parts, pass-long}
 use mathlib.Core.Logic.{_⊎_, inl, inr, _≢_}
 use borrow.Author.Tests.{ne-eqb}
@@ -25,7 +26,7 @@ use Rattle.words.proofs.Laws.{cases}
 use Rattle.promises.proofs.Steps.{by-turns}
 use Rattle.promises.specs.Rules.{Kind, kindNumber, First}
 use Rattle.promises.specs.Demands.{plannedTotal}
-use Rattle.promises.proofs.Counted.{next-passed, pause-counted}
+use Rattle.promises.proofs.Counted.{pause-counted}
 use Rattle.promises.proofs.Enough.{enough}
 use Rattle.promises.proofs.Parts.{header-take}
 use Rattle.promises.proofs.Least.{first-least}

@@ -13,11 +13,11 @@ use Rattle.words.specs.Tests.{pick}
 use Rattle.plan.specs.Plan.{group}
 use Rattle.plan.specs.declared.Plan.{Plan}
 use Rattle.lines.specs.View.{viewOf, shownBytes, pixelsOf, bareRefusal}
-use Rattle.lines.specs.Row.{samples, copiedBy, rowBy, copiedOf, rowOf}
+use Rattle.copies.specs.Row.{samples, copiedBy, rowBy, copiedOf, rowOf}
 use Rattle.lines.specs.declared.View.{View}
 use Rattle.lines.specs.declared.View.the-variants.{Shown, Wait, Refused}
-use Rattle.lines.specs.declared.Copied.the-variants.{Done, Refused as Refused′}
-use Rattle.lines.proofs.RowLaws.{length-samples, sample-at, copy-done, copy-short}
+use Rattle.copies.specs.declared.Copied.the-variants.{Done, Refused as Refused′}
+use Rattle.copies.proofs.RowLaws.{length-samples, sample-at, copy-done, copy-short}
 use Rattle.promises.specs.Shown.{lineRecord, Stands, dataCount, dataStart, dataPixels, sample}
 use Rattle.promises.specs.Demands.{Copies, Keeps, copier}
 use Rattle.promises.proofs.LineNamed.{stands-shown, pixels-named}

@@ -1,6 +1,6 @@
 -- A set agrees exactly where its directory is a file of the rules and the list is its pointers' counts: a directory has at most eight records, so its walk with a
 -- budget of nine is decided, and each count stands in its own pointer's record.
-use Prim.Native.Nat.{ℕ, zero, suc, _+_, _-_, _*_, _≤_, _<_}
+use Prim.Native.Nat.{ℕ, zero, suc, _+_, _*_, _≤_, _<_}
 use mathlib.Core.Path.{_≡_, refl, sym, ap, _∙_, subst}
 use mathlib.Core.List.{List, [], _∷_, _++_}
 use mathlib.Core.Logic.{_↔_}
@@ -25,6 +25,7 @@ use Rattle.walk.specs.Rule.{fresh, nextSpot}
 use Rattle.walk.specs.Turn.{nextOf}
 use Rattle.walk.specs.declared.Walked.{Walked}
 use Rattle.walk.proofs.LoopLaws.{walk-pass}
+use Rattle.walk.proofs.TurnLaws.{next-passed}
 use Rattle.turns.specs.declared.Stop.{Stop}
 use Rattle.turns.specs.declared.Stop.the-variants.{Wait, Pause, Complete, Refused as Refused′}
 use Rattle.sets.specs.Set.{differs, countByte, countOf, compareFrom, compareOf, behindWalk, directory, setOf}
@@ -34,7 +35,7 @@ use Rattle.sets.proofs.SetLaws.{few-pointers}
 use Rattle.promises.specs.Rules.{volume, Accepted, Numbered, First, VolumeDescriptor, promised, pointer, textRecord, concat}
 use Rattle.promises.specs.Shown.{Counts}
 use Rattle.promises.proofs.Accepts.{good-fresh, complete-accepted, follow-length}
-use Rattle.promises.proofs.Counted.{next-passed, closed-never-waits}
+use Rattle.promises.proofs.Counted.{closed-never-waits}
 use Rattle.promises.proofs.Enough.{enough}
 use Rattle.promises.proofs.FirstPasses.{taken-long, first-passes, first-same}
 use Rattle.promises.proofs.LineNamed.{part-of}

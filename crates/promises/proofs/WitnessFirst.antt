@@ -1,11 +1,10 @@
 -- Some bytes pass as the first record of each kind: one record a kind, written out in parts, and its tests computed.
 use Prim.Native.Nat.{ℕ, zero, suc, _+_, _≤_, _<_}
 use mathlib.Core.Path.{_≡_, refl, _∙_}
-use mathlib.Core.List.{List, [], _∷_}
+use mathlib.Core.List.{List}
 use native.Mathlib.Omega.{arith}
-use lib.ListN.{length, replicate}
+use lib.ListN.{length}
 use Rattle.words.specs.Words.{placeOf}
-use Rattle.decimal.specs.Text.{bytes}
 use Rattle.decimal.specs.Scan.{mantissaOf, numberOf, decimalOf, written}
 use Rattle.fields.specs.Field.{fieldAt}
 use Rattle.plan.specs.Tables.{slotOf, otherCodes}

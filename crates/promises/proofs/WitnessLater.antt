@@ -34,7 +34,6 @@ use Rattle.turns.specs.Turn.{headerOf}
 use Rattle.promises.specs.Bytes.{Bytes}
 use Rattle.promises.specs.Witness.{four, made, classOf, pointerParts, pointerRest, lineParts, lineRest}
 use Rattle.promises.proofs.Made.{four-sum, four-bytes, made-header, made-length, made-bytes, bytes-concat, bytes-same, Small}
-use Rattle.promises.specs.Rules.{concat}
 
 -- ---- the run of a record that is due
 

@@ -19,9 +19,9 @@ use Rattle.turns.specs.declared.Turn.{Turn}
 use Rattle.turns.specs.declared.Turn.the-variants.{Pass}
 use Rattle.walk.specs.declared.Walked.{Walked}
 use Rattle.plan.specs.declared.Plan.{Plan}
-use Rattle.lines.specs.Row.{copiedOf, rowOf}
-use Rattle.lines.specs.declared.Copied.{Copied}
-use Rattle.lines.specs.declared.Copied.the-variants.{Done}
+use Rattle.copies.specs.Row.{copiedOf, rowOf}
+use Rattle.copies.specs.declared.Copied.{Copied}
+use Rattle.copies.specs.declared.Copied.the-variants.{Done}
 use Rattle.promises.specs.Shown.{Stands, lineRecord, dataCount, dataPixels, sample}
 use Rattle.promises.specs.Rules.{Kind, kindNumber, Accepted}
 use Rattle.promises.specs.Arriving.{Starts, Waits, Refuses, AtRecordEnd}

@@ -6,8 +6,8 @@ use native.Mathlib.Omega.{arith}
 use native.Mathlib.Nat.{pow-suc, one-le-pow, pow-le-pow-right}
 use mathlib.Core.Logic.{⊎-elim}
 use lib.Dec.{leb}
-use lib.ListN.{length}
-use lib.Seq.{length-take-le}
+use lib.ListN.{length, drop}
+use lib.Seq.{length-take-le, drop-drop}
 use borrow.Author.Tests.{lt-ltb, le-ltb, leb-true, leb-false}
 use Rattle.words.proofs.Laws.{cases}
 use Rattle.io.specs.Counts.{Counts}
@@ -91,6 +91,13 @@ module _ (row : Row) (a b c d e : List ℕ) where
       → d ≡ c ++ (10 ∷ []) → d ≡ textOf row
   unfolding textOf
   text-refused x q s t u v = v ∙ rw (u, t, s, q)
+
+-- what stays behind a part stays behind the next one
+pub stays-later : (i j : ℕ) (new old last : List ℕ) → i ≤ j → drop j last ≡ drop j new → drop i new ≡ drop i old → drop j last ≡ drop j old
+stays-later i j new old last h e q =
+    let s : i + (j - i) ≡ j = omega arith in
+    let go : (l : List ℕ) → drop j l ≡ drop (j - i) (drop i l) = λ l. ap (λ (k : ℕ). drop k l) (sym s) ∙ sym (drop-drop (j - i) i l) in
+    e ∙ go new ∙ ap (drop (j - i)) q ∙ sym (go old)
 
 -- a length within the line counts its first bytes
 pub counted : (r : ℕ) (l : List ℕ) → r ≤ length l → Counts r l

@@ -3,7 +3,7 @@ use words::Refusal;
 ghost use mathlib.Core.Path.{_≡_};
 ghost use mathlib.Core.List.{_++_};
 ghost use Prim.Native.Nat.{_+_, _≤_};
-ghost use lib.ListN.{length, take};
+ghost use lib.ListN.{length, take, drop};
 ghost use Rattle.io.specs.Counts.{Counts};
 ghost use Rattle.rows.specs.Text.{with, textOf};
 
@@ -23,6 +23,7 @@ fn put(line: &mut [u8], at: usize, text: &[u8]) -> usize
     ensures { λ r. ⌜ take r (now (line .exit)) ≡ take at (now (line .entry)) ++ now (text .entry) ⌝ }
     ensures { λ r. ⌜ r ≡ at + length (now (text .entry)) ⌝ }
     ensures { λ r. ⌜ r ≤ length (now (line .exit)) ⌝ }
+    ensures { λ r. ⌜ drop r (now (line .exit)) ≡ drop r (now (line .entry)) ⌝ }
 {
     let mut i = 0;
     while i < text.len() {
@@ -37,6 +38,8 @@ fn part(line: &mut [u8], at: usize, word: &[u8], n: u64) -> usize
     requires { ⌜ at + length (now word) + 20 ≤ length (now line) ⌝ }
     ensures { λ r. ⌜ take r (now (line .exit)) ≡ with (take at (now (line .entry))) (now (word .entry)) n ⌝ }
     ensures { λ r. ⌜ r ≤ at + length (now (word .entry)) + 20 ⌝ }
+    ensures { λ r. ⌜ at ≤ r ⌝ }
+    ensures { λ r. ⌜ drop r (now (line .exit)) ≡ drop r (now (line .entry)) ⌝ }
 {
     let mut digits = [0u8; 20];
     let k = io::decimal(n, &mut digits);
@@ -44,9 +47,10 @@ fn part(line: &mut [u8], at: usize, word: &[u8], n: u64) -> usize
     put(line, from, &digits[..k])
 }
 
-// The row as it is printed, to the start of the line; its length.
+// The row as it is printed, to the start of the line; its length. The line behind it stays.
 pub fn spell(row: Row, line: &mut [u8; 96]) -> usize
     ensures { λ r. ⌜ take r (now (line .exit)) ≡ textOf row ⌝ }
+    ensures { λ r. ⌜ drop r (now (line .exit)) ≡ drop r (now (line .entry)) ⌝ }
     ensures { λ r. ⌜ Counts r (now (line .exit)) ⌝ }
 {
     match row {

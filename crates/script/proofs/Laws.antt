@@ -1,10 +1,9 @@
 -- How far a signed number lies from 0 fits its type, and is no negative number: by the two cases of a whole number.
-use Prim.Native.Nat.{suc}
 use mathlib.Core.Path.{_≡_, sym, subst}
-use mathlib.Core.Bool.{true, false, true≢false}
+use mathlib.Core.Bool.{true, false}
 use native.Mathlib.Omega.{arith}
 use lib.IntN.{ℤ, pos, negsuc, natAbs, _-ℤ_}
-use lib.Signed.{ltZ, nonNeg, natAbs-le}
+use lib.Signed.{ltZ, nonNeg}
 use lib.Dec.{T}
 use mir.Syntax.{w64}
 use mir.Val.{Fits, SFits, toZ, ofZ}
@@ -24,10 +23,3 @@ module _ (z v : ℤ) (e : z ≡ v) (h : ltZ z (negsuc 999999999999999998) ≡ fa
   pub turned-fits : T (nonNeg (toZ w64 (ofZ w64 (pos 0 -ℤ z)))) × Fits w64 (natAbs (toZ w64 (ofZ w64 (pos 0 -ℤ z))))
   turned-fits =
       subst (λ (x : ℤ). T (nonNeg x) × Fits w64 (natAbs x)) (sym (toZ-ofZ turned)) (below z h k .1, below z h k .2)
-
-pub not-below : (z v : ℤ) → z ≡ v → SFits w64 v → ltZ z (pos 0) ≡ false → T (nonNeg z) × Fits w64 (natAbs z)
-not-below z v e s h = (nonneg z h, subst (λ (x : ℤ). Fits w64 (natAbs x)) (sym e) (record { fits = omega (arith, natAbs-le v (s .sfits)) }))
-  where
-    nonneg : (x : ℤ) → ltZ x (pos 0) ≡ false → T (nonNeg x)
-    nonneg (pos n) h = tt
-    nonneg (negsuc n) h = absurd (true≢false h)

@@ -10,7 +10,7 @@
 //   s LENGTH COUNT COUNT ..  the set check of the first LENGTH bytes against at most 16 counts
 ghost use Prim.Native.Nat.{_≤_};
 ghost use lib.ListN.{length};
-use lines::Copied;
+use copies::Copied;
 use lines::View;
 use script::Taken;
 use sets::Agreement;
@@ -66,7 +66,7 @@ fn say_row(row: &[u16]) {
 
 // The lent row is what is copied to, and nothing else is printed of it.
 fn copied(bytes: &[u8], k: u64, row: &mut [u16]) {
-    let c = lines::row_copy(bytes, k, row);
+    let c = copies::row_copy(bytes, k, row);
     match c {
         Copied::Done(n) => {
             script::say(b"COPIED");

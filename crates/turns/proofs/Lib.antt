@@ -1,3 +1,3 @@
-pub mod NearLaws
+pub mod FaultLaws
 pub mod TurnLaws
 pub mod LineLaws

@@ -1,20 +1,21 @@
--- Lines of an image that hold what they must, one after the other: what the code that passes them at once counts. `Turn` knows nothing of it. Assumes nothing.
-use Prim.Native.Nat.{ℕ, _+_, _*_, _≤_, _<_}
-use mathlib.Core.Path.{_≡_}
+-- How many lines of an image hold what they must, one after the other: what the code that passes them at once counts. `Turn` knows nothing of it. Assumes nothing.
+use Prim.Native.Nat.{ℕ, zero, suc, _+_}
 use mathlib.Core.List.{List}
+use mathlib.Core.Bool.{Bool, false}
 use lib.ListN.{length, take, drop}
+use lib.Dec.{ltb}
+use Rattle.words.specs.Tests.{pick, bothOf}
 use Rattle.plan.specs.Plan.{image, codesOf}
-use Rattle.checks.specs.Tests.{firstFault}
+use Rattle.checks.specs.Tests.{allHold}
 use Rattle.image.specs.Image.{lineTests}
-use Rattle.checks.specs.declared.Verdict.the-variants.{Fine}
-use Rattle.turns.specs.Turn.{headerOf}
+use Rattle.turns.specs.Turn.{headerTests}
 
--- line k's record begins these bytes, is whole, and holds what it must
-pub record LineFine (w l k : ℕ) (b : List ℕ) : Type 0 where
-  pub whole : l ≤ length b
-  pub head : headerOf (k + 1) (codesOf image 1) l b ≡ Fine
-  pub body : firstFault (lineTests w k (take l b)) ≡ Fine
+-- whether line k's record begins these bytes, is whole, has room for a line's numbers, and holds what it must
+unfoldable pub lineFine : ℕ → ℕ → ℕ → List ℕ → Bool
+lineFine w l k b =
+    pick (ltb (length b) l) false (pick (ltb l 32) false (bothOf (allHold (headerTests (k + 1) (codesOf image 1) l b)) (allHold (lineTests w k (take l b)))))
 
--- so do the c lines from line k on, end to end
-abbrev pub LinesFine : ℕ → ℕ → ℕ → ℕ → List ℕ → Type 0
-LinesFine w l k c b = (i : ℕ) → i < c → LineFine w l (k + i) (drop (i * l) b)
+-- how many are so from line k on, at most so many
+unfoldable pub linesFine : ℕ → ℕ → ℕ → ℕ → List ℕ → ℕ
+linesFine w l k zero b = 0
+linesFine w l k (suc most) b = pick (lineFine w l k b) (suc (linesFine w l (suc k) most (drop l b))) 0

@@ -7,13 +7,12 @@ use plan::Plan;
 use plan::Spot;
 use words::Refusal;
 ghost use mathlib.Core.Path.{_≡_};
-ghost use Prim.Native.Nat.{_+_, _*_, _≤_};
-ghost use mathlib.Core.Bool.{true};
+ghost use Prim.Native.Nat.{_+_, _≤_};
 ghost use lib.ListN.{length};
 ghost use Rattle.plan.specs.Plan.{image, runCounts, runLengths, codesOf, totalOf, Small, Spotted};
-ghost use Rattle.checks.specs.declared.Verdict.the-variants.{Fine};
-ghost use Rattle.turns.specs.Turn.{Near, refusedAt, endedOf, shortOf, codesAre, headerOf, onFine, judgeOf};
-ghost use Rattle.turns.specs.Lines.{LineFine, LinesFine};
+ghost use Rattle.turns.specs.Turn.{Near, refusedAt, endedOf, shortOf, codesAre, headerTests, headerOf, onFine, judgeOf};
+ghost use Rattle.checks.specs.Tests.{allHold};
+ghost use Rattle.turns.specs.Lines.{lineFine, linesFine};
 
 // Which stop it was: wait with the count of missing bytes, budget used up, all there, refused.
 pub enum Stop {
@@ -134,20 +133,20 @@ pub fn judge(kind: u64, p: Plan, k: u64, s: Spot, b: &[u8], closed: bool) -> Tur
     told(bodies::judge(kind, s.run, p, k, &b[..due]), k + 1, s.start)
 }
 
-// A header's tests on bytes that have all come: what `header` would find nothing wrong with.
+// A header's tests on bytes that have all come: whether `header` would find nothing wrong.
 fn header_there(ordinal: u64, c: Codes, long: u64, b: &[u8]) -> bool
     requires { ⌜ 12 ≤ length (now b) ⌝ }
-    ensures { λ r. ⌜ (r ≡ true → headerOf ordinal c long (now (b .entry)) ≡ Fine) ⌝ }
+    ensures { λ r. ⌜ r ≡ allHold (headerTests ordinal c long (now (b .entry))) ⌝ }
 {
     let number = words::is(words::four_there(b, 0), ordinal);
     let length = words::is(words::four_there(b, 8), long);
     words::both(number, words::both(codes_are(b, c), length))
 }
 
-// Line k's record begins these bytes, is whole, and holds what it must.
+// Line k's record begins these bytes, is whole, has room for a line's numbers, and holds what it must.
 fn line_fine(c: Codes, w: u64, l: u64, k: u64, b: &[u8]) -> bool
     requires { ⌜ (c ≡ codesOf image 1) × (k ≤ 17000000) ⌝ }
-    ensures { λ r. ⌜ (r ≡ true → LineFine w l k (now (b .entry))) ⌝ }
+    ensures { λ r. ⌜ r ≡ lineFine w l k (now (b .entry)) ⌝ }
 {
     if (b.len() as u64) < l {
         return false;
@@ -163,8 +162,7 @@ fn line_fine(c: Codes, w: u64, l: u64, k: u64, b: &[u8]) -> bool
 // How many lines from line k on pass one after the other, at most that many.
 pub fn lines_ahead(w: u64, l: u64, k: u64, most: u64, b: &[u8]) -> u64
     requires { ⌜ k + most ≤ 17000000 ⌝ }
-    ensures { λ r. ⌜ (r ≤ most) × (r * l ≤ length (now (b .entry))) ⌝ }
-    ensures { λ r. ⌜ LinesFine w l k r (now (b .entry)) ⌝ }
+    ensures { λ r. ⌜ r ≡ linesFine w l k most (now (b .entry)) ⌝ }
 {
     let codes = plan::codes_of(plan::IMAGE, 1);
     let mut c: u64 = 0;

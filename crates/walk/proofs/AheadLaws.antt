@@ -1,6 +1,6 @@
 -- Lines that pass one after the other may be passed at once: by induction on how many, each is a turn that passes.
 use Prim.Native.Nat.{ℕ, zero, suc, _+_, _-_, _*_, _≤_, _<_}
-use mathlib.Core.Path.{_≡_, refl, sym, ap, _∙_, subst}
+use mathlib.Core.Path.{_≡_, refl, sym, ap, ap₂, _∙_, subst}
 use mathlib.Core.List.{List}
 use mathlib.Core.Bool.{Bool, true}
 use native.Mathlib.Omega.{arith}
@@ -18,22 +18,17 @@ use Rattle.image.specs.Image.{imageRecord}
 use Rattle.bodies.specs.Bodies.{bodyOf, bodyTests}
 use Rattle.checks.specs.declared.Verdict.{Verdict}
 use Rattle.turns.specs.Turn.{onFine, judgeOf}
-use Rattle.turns.specs.Lines.{LineFine, LinesFine}
+use Rattle.turns.specs.Lines.{linesFine}
 use Rattle.turns.specs.declared.Turn.the-variants.{Pass}
 use Rattle.turns.proofs.TurnLaws.{judge-body}
-use Rattle.turns.proofs.LineLaws.{head-fine, tail-fine, rest, rest-is}
+use Rattle.turns.proofs.LineLaws.{LineFine, LinesFine, head-fine, tail-fine, lines-few, lines-room, lines-are, rest, rest-is}
 use Rattle.walk.specs.Rule.{goodState}
 use Rattle.walk.specs.Turn.{turnOf, nextOf, more, walkOf}
 use Rattle.walk.specs.Ahead.{skipped, Ahead}
 use Rattle.walk.specs.declared.State.{State}
-use Rattle.walk.specs.declared.Walked.{Walked}
 use Rattle.walk.proofs.GoodLaws.{good-some, good-later}
 use Rattle.walk.proofs.TurnLaws.{next-as-later}
-use Rattle.walk.proofs.LoopLaws.{walk-pass, more-none}
-
--- counts add up
-more-after : (n : ℕ) (w : Walked) → more 1 (more n w) ≡ more (suc n) w
-more-after n w = ap (λ (k : ℕ). record { state = w .state; count = k; stop = w .stop }) (let e : w .count + n + 1 ≡ w .count + suc n = omega arith in e)
+use Rattle.walk.proofs.LoopLaws.{walk-pass, more-more, more-none}
 
 -- the state of an image behind k records
 abbrev behind : Plan → ℕ → State
@@ -71,6 +66,7 @@ module _ (p : Plan) (good : planGood image p ≡ true) where
       ∙ ap (λ (i : ℕ). more 0 (walkOf m (behind p (suc k + 0)) (drop i b) closed)) (sym (zero-mul (p .l)))
   ahead-walk (suc c) k m b closed h f =
       let n : suc c + m ≡ suc (c + m) = omega arith in
+      let x : 1 + c ≡ suc c = omega arith in
       let y : suc (suc k) + c ≡ suc k + suc c = omega arith in
       let d : p .l + c * p .l ≡ suc c * p .l = omega (arith, suc-mul c (p .l)) in
       ap (λ (i : ℕ). walkOf i (behind p (suc k)) b closed) n
@@ -78,8 +74,8 @@ module _ (p : Plan) (good : planGood image p ≡ true) where
       ∙ ap (λ (x : Spot). more 1 (walkOf (c + m) (nextOf (behind p (suc k)) b) (drop (x .length) b) closed)) (line-spot p k (omega arith))
       ∙ ap (λ (x : State). more 1 (walkOf (c + m) x (drop (p .l) b) closed)) (line-next k b)
       ∙ ap (more 1) (ahead-walk c (suc k) m (drop (p .l) b) closed (omega arith) (tail-fine (p .w) (p .l) (suc k) c b f))
-      ∙ more-after c (walkOf m (behind p (suc (suc k) + c)) (drop (c * p .l) (drop (p .l) b)) closed)
-      ∙ ap (λ (i : ℕ). more (suc c) (walkOf m (behind p i) (drop (c * p .l) (drop (p .l) b)) closed)) y
+      ∙ more-more 1 c (walkOf m (behind p (suc (suc k) + c)) (drop (c * p .l) (drop (p .l) b)) closed)
+      ∙ ap₂ (λ (j i : ℕ). more j (walkOf m (behind p i) (drop (c * p .l) (drop (p .l) b)) closed)) x y
       ∙ ap (λ (x : List ℕ). more (suc c) (walkOf m (behind p (suc k + suc c)) x closed)) (drop-drop (c * p .l) (p .l) b ∙ ap (λ (i : ℕ). drop i b) d)
 
 -- no record is passed at once
@@ -122,16 +118,26 @@ module _ (st : State) (b : List ℕ) (most c k : ℕ) (i : st .kind ≡ image) (
             ∙ ap (λ (x : State). more c (walkOf m x (drop (c * st .plan .l) b) closed)) (sym s);
       }
 
--- the lines of an image that pass one after the other
-pub ahead-lines : (st : State) (b : List ℕ) (most c : ℕ) → goodState st ≡ true → st .kind ≡ image → (st .passed ≡ 0 → ⊥)
-    → c ≤ most → st .passed + c ≤ suc (st .plan .n) → c * st .plan .l ≤ length b → LinesFine (st .plan .w) (st .plan .l) (st .passed) c b → Ahead st b most c
-ahead-lines st b most c g i z few t room f = go (st .passed) refl
+-- the lines of an image that pass one after the other, as the code counts them: at most `few`, which are no more than are left
+pub ahead-lines : (st : State) (b : List ℕ) (most few c : ℕ) → goodState st ≡ true → st .kind ≡ image → (st .passed ≡ 0 → ⊥)
+    → few ≤ most → st .passed + few ≤ suc (st .plan .n) → c ≡ linesFine (st .plan .w) (st .plan .l) (st .passed) few b → Ahead st b most c
+ahead-lines st b most few c g i z less t e = subst (Ahead st b most) (sym e) (go (st .passed) refl)
   where
-    go : (k : ℕ) → st .passed ≡ k → Ahead st b most c
+    w : ℕ
+    w = st .plan .w
+
+    l : ℕ
+    l = st .plan .l
+
+    found : ℕ
+    found = linesFine w l (st .passed) few b
+
+    go : (k : ℕ) → st .passed ≡ k → Ahead st b most found
     go zero h = absurd (z h)
     go (suc k) h =
-        ahead-behind st b most c k i h (subst (λ (x : ℕ). planGood x (st .plan) ≡ true) i (good-later st g z .0)) few (omega arith) room
-        (subst (λ (x : ℕ). LinesFine (st .plan .w) (st .plan .l) x c b) h f)
+        let n : found ≤ few = lines-few w l (st .passed) few b in
+        ahead-behind st b most found k i h (subst (λ (x : ℕ). planGood x (st .plan) ≡ true) i (good-later st g z .0)) (omega arith) (omega arith) (lines-room w l (st .passed) few b)
+        (subst (λ (x : ℕ). LinesFine w l x found b) h (lines-are w l (st .passed) few b))
 
 -- what the code needs of an image's state
 pub image-state : (st : State) → goodState st ≡ true → st .kind ≡ image → (st .passed ≡ 0 → ⊥) → (st .passed ≤ suc (st .plan .n)) × (st .plan .n ≤ 999999)
@@ -144,9 +150,6 @@ image-state st g i z =
 
 -- ---- the walk's loop, which hands on `&bytes[at..]`
 
-more-both : (n c : ℕ) (w : Walked) → more n (more c w) ≡ more (n + c) w
-more-both n c w = ap (λ (k : ℕ). record { state = w .state; count = k; stop = w .stop }) (let e : w .count + c + n ≡ w .count + (n + c) = omega arith in e)
-
 -- what is left of the walk behind the records passed at once
 pub turn-ahead : (m n at c : ℕ) (st : State) (b : List ℕ) (closed : Bool) → n ≤ m → Ahead st (rest b at) (m - n) c
     → more n (walkOf (m - n) st (drop at b) closed) ≡ more (n + c) (walkOf (m - (n + c)) (skipped st c) (drop (at + c * st .plan .l) b) closed)
@@ -156,5 +159,5 @@ turn-ahead m n at c st b closed h a =
     ap (λ (i : ℕ). more n (walkOf i st (drop at b) closed)) e
     ∙ ap (λ (x : List ℕ). more n (walkOf (c + (m - (n + c))) st x closed)) (sym (rest-is b at))
     ∙ ap (more n) (a .walks (m - (n + c)) closed)
-    ∙ more-both n c (walkOf (m - (n + c)) (skipped st c) (drop long (rest b at)) closed)
+    ∙ more-more n c (walkOf (m - (n + c)) (skipped st c) (drop long (rest b at)) closed)
     ∙ ap (λ (x : List ℕ). more (n + c) (walkOf (m - (n + c)) (skipped st c) x closed)) (ap (drop long) (rest-is b at) ∙ drop-drop long at b)

@@ -36,8 +36,8 @@ module _ (st : State) (b : List ℕ) (c : Bool) where
   walk-pass f h t = simp (h, t)
 
 -- counts add up
-pub more-more : (n : ℕ) (w : Walked) → more n (more 1 w) ≡ more (n + 1) w
-more-more n w = ap (λ (k : ℕ). record { state = w .state; count = k; stop = w .stop }) (let e : w .count + 1 + n ≡ w .count + (n + 1) = omega arith in e)
+pub more-more : (n c : ℕ) (w : Walked) → more n (more c w) ≡ more (n + c) w
+more-more n c w = ap (λ (k : ℕ). record { state = w .state; count = k; stop = w .stop }) (let e : w .count + c + n ≡ w .count + (n + c) = omega arith in e)
 
 pub more-none : (w : Walked) → w ≡ more 0 w
 more-none w = ap (λ (k : ℕ). record { state = w .state; count = k; stop = w .stop }) (let e : w .count ≡ w .count + 0 = omega arith in e)
@@ -61,7 +61,7 @@ module _ (m n at : ℕ) (st : State) (b : List ℕ) (c : Bool) where
   turn-pass long st′ h g t e q =
       ap (λ (f : ℕ). more n (walkOf f st (drop at b) c)) (less-one m n h)
       ∙ ap (more n) (walk-pass st (drop at b) c (m - (n + 1)) g (rw (rest-is b at) at t))
-      ∙ more-more n (walkOf (m - (n + 1)) (nextOf st (drop at b)) (drop (nextSpot st .length) (drop at b)) c)
+      ∙ more-more n 1 (walkOf (m - (n + 1)) (nextOf st (drop at b)) (drop (nextSpot st .length) (drop at b)) c)
       ∙ rw (q, rest-is b at, e, ← drop-drop)
 
   pub pass-room : (long : ℕ) → at ≤ length b → turnOf st (rest b at) c ≡ Pass → long ≡ nextSpot st .length → at + long ≤ length b

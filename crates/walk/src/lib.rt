@@ -94,9 +94,9 @@ impl State {
         let p = self.plan;
         let known = words::within(1, kind, 4);
         if k == 0 {
-            return words::both(known, plan::is_zero(p));
+            return words::both(known, ranges::is_zero(p));
         }
-        if plan::good(kind, p) {
+        if ranges::good(kind, p) {
             return words::both(known, k <= plan::total(kind, p));
         }
         false

@@ -1,9 +1,13 @@
--- What the numbers of several bytes are at the end of the bytes, by computing each byte that is not there as 0; and that an equation leaves one answer.
+-- What the numbers of several bytes are at the end of the bytes, by computing each byte that is not there as 0; that an equation leaves one answer; and the tests that all crates share, as facts.
 use Prim.Native.Nat.{ℕ, _+_, _*_, _≤_}
-use mathlib.Core.Path.{_≡_, refl, sym, ap, ap₂, _∙_}
+use mathlib.Core.Path.{_≡_, refl, sym, ap, ap₂, _∙_, subst}
 use mathlib.Core.List.{List}
-use mathlib.Core.Bool.{Bool, true, false, false≢true}
-use lib.Dec.{leb}
+use mathlib.Core.Bool.{Bool, true, false, false≢true, true≢false}
+use lib.Dec.{T, leb}
+use lib.IntN.{ℤ, pos, negsuc, natAbs}
+use lib.Signed.{ltZ, nonNeg, natAbs-le}
+use mir.Syntax.{w64}
+use mir.Val.{Fits, SFits}
 use borrow.Author.Tests.{leb-true, le-leb}
 use native.Mathlib.Omega.{arith}
 use lib.ListN.{length, List·getD-eq-default}
@@ -52,6 +56,10 @@ pub both-false : (a : Bool) → bothOf a false ≡ false
 both-false true = refl
 both-false false = refl
 
+pub both-true : (a : Bool) → a ≡ bothOf a true
+both-true true = refl
+both-true false = refl
+
 pub both-l : (a b : Bool) → bothOf a b ≡ true → a ≡ true
 both-l true b h = refl
 both-l false b h = h
@@ -72,6 +80,14 @@ pick-false b x y h = ap (λ (t : Bool). pick t x y) h
 pub cases : (b : Bool) → (b ≡ true) ⊎ (b ≡ false)
 cases true = inl refl
 cases false = inr refl
+
+-- what the machine reads back of a signed number, where it is not negative, may be used as an unsigned one
+pub natural-fits : (z v : ℤ) → z ≡ v → ltZ z (pos 0) ≡ false → SFits w64 v → T (nonNeg z) × Fits w64 (natAbs z)
+natural-fits z v e h s = (not-negative z h, subst (λ (x : ℤ). Fits w64 (natAbs x)) (sym e) (record { fits = omega (arith, natAbs-le v (s .sfits)) }))
+  where
+    not-negative : (x : ℤ) → ltZ x (pos 0) ≡ false → T (nonNeg x)
+    not-negative (pos n) h = tt
+    not-negative (negsuc n) h = absurd (true≢false h)
 
 -- the four bytes one by one
 pub four-bytes : (b : List ℕ) (at : ℕ) → (byteAt b at * 256 + byteAt b (at + 1)) * 65536 + (byteAt b (at + 2) * 256 + byteAt b (at + 3)) ≡ fourAt b at

@@ -1,7 +1,7 @@
 -- Each case is document 01's word for it.
 use Rattle.answers.specs.Told.{toldOf}
-use Rattle.lines.specs.declared.Copied.{Copied}
-use Rattle.lines.specs.Said.{copiedAs}
+use Rattle.copies.specs.declared.Copied.{Copied}
+use Rattle.copies.specs.Said.{copiedAs}
 use mathlib.Core.Path.{sym, ap, _∙_}
 use borrow.Author.Needs.{needs}
 use Rattle.answers.proofs.told_copy.Statement.{statement}

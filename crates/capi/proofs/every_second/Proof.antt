@@ -1,5 +1,6 @@
 -- The array is filled from the front with every second number.
-use Rattle.capi.proofs.ListLaws.{fill-more, fill-done}
+use Rattle.leader.proofs.FillLaws.{fill-more}
+use Rattle.capi.proofs.ListLaws.{fill-done}
 use Rattle.capi.specs.Numbers.{everySecond}
 use lib.ListN.{length, getD, length-set}
 use borrow.Author.Needs.{needs}

@@ -1,8 +1,8 @@
 -- Without room nothing is written; with it row and answer are the row copy's.
 use Rattle.capi.proofs.CallLaws as laws
 use Rattle.answers.specs.Told.{toldOf}
-use Rattle.lines.specs.declared.Copied.{Copied}
-use Rattle.lines.specs.Said.{copiedAs}
+use Rattle.copies.specs.declared.Copied.{Copied}
+use Rattle.copies.specs.Said.{copiedAs}
 use borrow.Author.Tests.{lt-leb, le-leb}
 use lib.ListN.{length}
 use mathlib.Core.Path.{ap, _∙_}

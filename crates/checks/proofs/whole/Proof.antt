@@ -1,4 +1,5 @@
 -- A number that is not negative is its own size; a negative one says nothing.
+use Rattle.words.proofs.Laws as numbers
 use Rattle.checks.proofs.whole.Statement.{statement}
 use mir.Facts.{toZ-ofZ}
 use Rattle.checks.proofs.whole.Tie as tie
@@ -8,7 +9,7 @@ returns : tie.Need-returns
 returns c = laws.negative-of _ (c .before .args .v) (toZ-ofZ (c .before .fits .v)) (c .if1 .taken)
 
 cast-result : tie.Need-cast-result
-cast-result c = laws.natural-fits _ (c .before .args .v) (toZ-ofZ (c .before .fits .v)) (c .if1 .left) (c .before .fits .v)
+cast-result c = numbers.natural-fits _ (c .before .args .v) (toZ-ofZ (c .before .fits .v)) (c .if1 .left) (c .before .fits .v)
 
 returns-2 : tie.Need-returns-2
 returns-2 c = laws.natural-of _ (c .before .args .v) (toZ-ofZ (c .before .fits .v)) (c .if1 .left)

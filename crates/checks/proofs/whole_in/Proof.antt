@@ -1,6 +1,7 @@
 -- A number that is not negative is compared as its own size; a negative one is in no range.
 use mathlib.Core.Path.{_∙_}
 use borrow.Author.Needs.{needs}
+use Rattle.words.proofs.Laws as numbers
 use Rattle.checks.proofs.whole_in.Statement.{statement}
 use mir.Facts.{toZ-ofZ}
 use Rattle.checks.proofs.whole_in.Tie as tie
@@ -10,7 +11,7 @@ returns : tie.Need-returns
 returns c = laws.negative-in _ (c .before .args .v) (toZ-ofZ (c .before .fits .v)) (c .before .args .lo) (c .before .args .hi) (c .if1 .taken)
 
 cast-within : tie.Need-cast-within
-cast-within c = laws.natural-fits _ (c .before .args .v) (toZ-ofZ (c .before .fits .v)) (c .if1 .left) (c .before .fits .v)
+cast-within c = numbers.natural-fits _ (c .before .args .v) (toZ-ofZ (c .before .fits .v)) (c .if1 .left) (c .before .fits .v)
 
 within-requires : tie.Need-within-requires
 within-requires c κs = search needs

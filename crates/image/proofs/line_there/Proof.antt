@@ -1,11 +1,9 @@
--- All three tests hold, so nothing is wrong.
+-- The three tests of a line, on its numbers as read.
 use Rattle.image.proofs.ImageLaws as laws
-use Rattle.words.proofs.Laws.{both-l, both-r}
+use Rattle.words.specs.Tests.{bothOf}
 use Rattle.words.specs.Words.{fourAt, placeOf}
-use borrow.Author.Tests.{eqb-true}
 use native.Mathlib.Omega.{arith}
-use Prim.Native.Nat.{_+_}
-use mathlib.Core.Path.{_≡_, sym, ap, _∙_}
+use mathlib.Core.Path.{ap, ap₂, _∙_}
 use borrow.Author.Needs.{needs}
 use Rattle.image.proofs.line_there.Statement.{statement}
 use Rattle.image.proofs.line_there.Tie as tie
@@ -67,16 +65,16 @@ both-requires-2 : tie.Need-both-requires-2
 both-requires-2 c κs = search needs
 
 returns : tie.Need-returns
-returns c = λ x.
+returns c =
     let r = c .before .before .before .before .before .before .before .before .before .before .before .before .before .before .before .before .args .r .now in
-    let all = sym (c .both2 .ensures) ∙ x in
-    let tail = sym (c .before .both .ensures) ∙ both-r (c .before .before .before .before .before .before .before .before .before .before .before .before .is .result) (c .before .both .result) all in
-    let a = eqb-true (c .before .before .before .before .before .before .before .before .before .before .before .before .before .four-there .result) (c .before .before .before .before .before .before .before .before .before .before .before .before .before .before .before .before .args .k) (sym (c .before .before .before .before .before .before .before .before .before .before .before .before .is .ensures) ∙ both-l (c .before .before .before .before .before .before .before .before .before .before .before .before .is .result) (c .before .both .result) all) in
-    let b = eqb-true (c .before .before .before .before .before .before .before .before .before .before .four-there2 .result) 1 (sym (c .before .before .before .before .before .before .before .before .before .is2 .ensures) ∙ both-l (c .before .before .before .before .before .before .before .before .before .is2 .result) (c .before .before .is3 .result) tail) in
-    let e = eqb-true (c .before .before .before .before .before .before .before .four-there3 .result + c .before .before .before .before .before .four-there4 .result + c .before .before .before .four-there5 .result) (c .before .before .before .before .before .before .before .before .before .before .before .before .before .before .before .before .args .w) (sym (c .before .before .is3 .ensures) ∙ both-r (c .before .before .before .before .before .before .before .before .before .is2 .result) (c .before .before .is3 .result) tail) in
-    let s : c .before .before .before .before .before .before .before .four-there3 .result + c .before .before .before .before .before .four-there4 .result + c .before .before .before .four-there5 .result ≡ fourAt r (placeOf 21) + fourAt r (placeOf 25) + fourAt r (placeOf 29) =
-    rw (c .before .before .before .before .before .before .before .four-there3 .ensures .0, c .before .before .before .before .before .four-there4 .ensures .0, c .before .before .before .four-there5 .ensures .0, c .before .before .before .before .before .before .before .before .place3 .ensures, c .before .before .before .before .before .before .place4 .ensures, c .before .before .before .before .place5 .ensures) in
-    laws.good-line (c .before .before .before .before .before .before .before .before .before .before .before .before .before .before .before .before .args .w) (c .before .before .before .before .before .before .before .before .before .before .before .before .before .before .before .before .args .k) r (sym (c .before .before .before .before .before .before .before .before .before .before .before .before .before .four-there .ensures .0 ∙ ap (fourAt r) (c .before .before .before .before .before .before .before .before .before .before .before .before .before .before .place .ensures)) ∙ a) (sym (c .before .before .before .before .before .before .before .before .before .before .four-there2 .ensures .0 ∙ ap (fourAt r) (c .before .before .before .before .before .before .before .before .before .before .before .place2 .ensures)) ∙ b) (sym s ∙ e)
+    c .both2 .ensures
+    ∙ ap₂ bothOf (c .before .before .before .before .before .before .before .before .before .before .before .before .is .ensures) (c .before .both .ensures ∙ ap₂ bothOf (c .before .before .before .before .before .before .before .before .before .is2 .ensures) (c .before .before .is3 .ensures))
+    ∙ laws.line-holds (c .before .before .before .before .before .before .before .before .before .before .before .before .before .before .before .before .args .w) (c .before .before .before .before .before .before .before .before .before .before .before .before .before .before .before .before .args .k) r _ _ _ _ _
+    (c .before .before .before .before .before .before .before .before .before .before .before .before .before .four-there .ensures .0 ∙ ap (fourAt r) (c .before .before .before .before .before .before .before .before .before .before .before .before .before .before .place .ensures))
+    (c .before .before .before .before .before .before .before .before .before .before .four-there2 .ensures .0 ∙ ap (fourAt r) (c .before .before .before .before .before .before .before .before .before .before .before .place2 .ensures))
+    (c .before .before .before .before .before .before .before .four-there3 .ensures .0 ∙ ap (fourAt r) (c .before .before .before .before .before .before .before .before .place3 .ensures))
+    (c .before .before .before .before .before .four-there4 .ensures .0 ∙ ap (fourAt r) (c .before .before .before .before .before .before .place4 .ensures))
+    (c .before .before .before .four-there5 .ensures .0 ∙ ap (fourAt r) (c .before .before .before .before .place5 .ensures))
 
 pub line-there-spec : {M : Type 1} → statement M
 line-there-spec =

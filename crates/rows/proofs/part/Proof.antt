@@ -29,7 +29,7 @@ same-length : tie.Need-same-length
 same-length c = search needs
 
 returns : tie.Need-returns
-returns c = let h : c .before .before .before .before .before .before .before .before .before .decimal .result ≤ 20 = laws.few-digits _ _ (search needs) (c .before .before .before .before .before .before .before .before .before .decimal .ensures .1 .0) in (laws.with-is (take (c .before .before .before .before .before .before .before .before .before .before .before .before .before .args .at) (c .before .before .before .before .before .before .before .before .before .before .before .before .before .args .line .now)) (c .before .before .before .before .before .before .before .before .before .before .before .before .before .args .word .now) _ _ _ (c .before .before .before .before .before .before .before .put .ensures .0) (c .before .before .put2 .ensures .0 ∙ ap (λ (t : List ℕ). take (c .before .before .before .before .before .before .before .put .result) (c .before .before .before .before .before .before .before .put .last .0) ++ t) (c .before .before .before .before .before .before .before .before .before .decimal .ensures .1 .1 ∙ laws.numeral-is _ _ h (c .before .before .before .before .before .before .before .before .before .decimal .ensures .1 .0))), omega (arith, c .before .before .before .before .before .before .before .put .ensures .1 .0, c .before .before .put2 .ensures .1 .0, c .before .before .before .before .before .before .before .before .before .decimal .ensures .0 .1))
+returns c = let h : c .before .before .before .before .before .before .before .before .before .decimal .result ≤ 20 = laws.few-digits _ _ (search needs) (c .before .before .before .before .before .before .before .before .before .decimal .ensures .1 .0) in (laws.with-is (take (c .before .before .before .before .before .before .before .before .before .before .before .before .before .args .at) (c .before .before .before .before .before .before .before .before .before .before .before .before .before .args .line .now)) (c .before .before .before .before .before .before .before .before .before .before .before .before .before .args .word .now) _ _ _ (c .before .before .before .before .before .before .before .put .ensures .0) (c .before .before .put2 .ensures .0 ∙ ap (λ (t : List ℕ). take (c .before .before .before .before .before .before .before .put .result) (c .before .before .before .before .before .before .before .put .last .0) ++ t) (c .before .before .before .before .before .before .before .before .before .decimal .ensures .1 .1 ∙ laws.numeral-is _ _ h (c .before .before .before .before .before .before .before .before .before .decimal .ensures .1 .0))), (omega (arith, c .before .before .before .before .before .before .before .put .ensures .1 .0, c .before .before .put2 .ensures .1 .0, c .before .before .before .before .before .before .before .before .before .decimal .ensures .0 .1), (omega (arith, c .before .before .before .before .before .before .before .put .ensures .1 .0, c .before .before .put2 .ensures .1 .0), laws.stays-later (c .before .before .before .before .before .before .before .put .result) (c .before .before .put2 .result) _ _ _ (omega (arith, c .before .before .put2 .ensures .1 .0)) (c .before .before .put2 .ensures .1 .1 .1) (c .before .before .before .before .before .before .before .put .ensures .1 .1 .1))))
 
 pub part-spec : {M : Type 1} → statement M
 part-spec =

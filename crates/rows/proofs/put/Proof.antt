@@ -6,8 +6,8 @@ use mathlib.Core.List.{List}
 use native.Mathlib.Numerals.{add-one}
 use native.Mathlib.Omega.{arith}
 use borrow.Author.Needs.{needs}
-use lib.ListN.{length, set, getD, length-set, take}
-use lib.Seq.{paste, paste-zero, paste-suc, take-paste, take-all}
+use lib.ListN.{length, set, getD, length-set, take, drop}
+use lib.Seq.{paste, paste-zero, paste-suc, take-paste, drop-paste, take-all}
 use Rattle.rows.proofs.put.Statement.{statement}
 use Rattle.rows.proofs.put.Tie as tie
 
@@ -45,7 +45,7 @@ same-length : tie.Need-same-length Inv-loop μ-loop
 same-length c = c .before .loop .inv .2
 
 returns : tie.Need-returns Inv-loop μ-loop
-returns c = let e : c .before .loop .i ≡ length (c .before .before .args .text .now) = omega arith in (ap (take (c .before .before .args .at + c .before .loop .i)) (c .before .loop .inv .1) ∙ take-paste (c .before .before .args .line .now) (c .before .before .args .at) (c .before .before .args .text .now) (c .before .loop .i) (omega (arith, c .before .before .pre)) (c .before .loop .inv .0) ∙ ap (λ (t : List ℕ). take (c .before .before .args .at) (c .before .before .args .line .now) ++ t) (take-all (c .before .loop .i) (c .before .before .args .text .now) (omega arith)), (ap (λ (n : ℕ). c .before .before .args .at + n) e, omega (arith, c .before .loop .inv .2, c .before .before .pre)))
+returns c = let e : c .before .loop .i ≡ length (c .before .before .args .text .now) = omega arith in (ap (take (c .before .before .args .at + c .before .loop .i)) (c .before .loop .inv .1) ∙ take-paste (c .before .before .args .line .now) (c .before .before .args .at) (c .before .before .args .text .now) (c .before .loop .i) (omega (arith, c .before .before .pre)) (c .before .loop .inv .0) ∙ ap (λ (t : List ℕ). take (c .before .before .args .at) (c .before .before .args .line .now) ++ t) (take-all (c .before .loop .i) (c .before .before .args .text .now) (omega arith)), (ap (λ (n : ℕ). c .before .before .args .at + n) e, (omega (arith, c .before .loop .inv .2, c .before .before .pre), ap (drop (c .before .before .args .at + c .before .loop .i)) (c .before .loop .inv .1) ∙ drop-paste (c .before .before .args .line .now) (c .before .before .args .at) (c .before .before .args .text .now) (c .before .loop .i) (omega (arith, c .before .before .pre)) (c .before .loop .inv .0))))
 
 pub put-spec : {M : Type 1} → statement M
 put-spec =

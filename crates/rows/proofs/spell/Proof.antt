@@ -1,5 +1,6 @@
 -- Each row's words and numbers, one behind the other.
 use mathlib.Core.List.{[]}
+use native.Mathlib.Omega.{arith}
 use Rattle.rows.proofs.TextLaws as laws
 use borrow.Author.Needs.{needs}
 use Rattle.rows.proofs.spell.Statement.{statement}
@@ -117,19 +118,19 @@ put-requires-5 : tie.Need-put-requires-5
 put-requires-5 c κs = search needs
 
 returns : tie.Need-returns
-returns c = (laws.text-image _ _ _ _ [] [] _ _ (c .before .before .before .before .before .before .before .before .before .before .row .given .1) (c .before .before .before .before .before .before .part .ensures .0) (c .before .before .before .part2 .ensures .0) (c .put .ensures .0), laws.counted _ _ (c .put .ensures .1 .1))
+returns c = (laws.text-image _ _ _ _ [] [] _ _ (c .before .before .before .before .before .before .before .before .before .before .row .given .1) (c .before .before .before .before .before .before .part .ensures .0) (c .before .before .before .part2 .ensures .0) (c .put .ensures .0), (laws.stays-later (c .before .before .before .part2 .result) (c .put .result) _ _ _ (omega (arith, c .put .ensures .1 .0)) (c .put .ensures .1 .1 .1) (laws.stays-later _ _ _ _ _ (c .before .before .before .part2 .ensures .1 .1 .0) (c .before .before .before .part2 .ensures .1 .1 .1) (c .before .before .before .before .before .before .part .ensures .1 .1 .1)), laws.counted _ _ (c .put .ensures .1 .1 .0)))
 
 returns-2 : tie.Need-returns-2
-returns-2 c = (laws.text-line _ _ _ _ _ _ _ _ _ _ (c .before .before .before .before .before .before .before .before .before .before .before .before .before .before .before .before .row2 .given .1) (c .before .before .before .before .before .before .before .before .before .before .before .before .part3 .ensures .0) (c .before .before .before .before .before .before .before .before .before .part4 .ensures .0) (c .before .before .before .before .before .before .part5 .ensures .0) (c .before .before .before .part6 .ensures .0) (c .put2 .ensures .0), laws.counted _ _ (c .put2 .ensures .1 .1))
+returns-2 c = (laws.text-line _ _ _ _ _ _ _ _ _ _ (c .before .before .before .before .before .before .before .before .before .before .before .before .before .before .before .before .row2 .given .1) (c .before .before .before .before .before .before .before .before .before .before .before .before .part3 .ensures .0) (c .before .before .before .before .before .before .before .before .before .part4 .ensures .0) (c .before .before .before .before .before .before .part5 .ensures .0) (c .before .before .before .part6 .ensures .0) (c .put2 .ensures .0), (laws.stays-later (c .before .before .before .part6 .result) (c .put2 .result) _ _ _ (omega (arith, c .put2 .ensures .1 .0)) (c .put2 .ensures .1 .1 .1) (laws.stays-later _ _ _ _ _ (c .before .before .before .part6 .ensures .1 .1 .0) (c .before .before .before .part6 .ensures .1 .1 .1) (laws.stays-later _ _ _ _ _ (c .before .before .before .before .before .before .part5 .ensures .1 .1 .0) (c .before .before .before .before .before .before .part5 .ensures .1 .1 .1) (laws.stays-later _ _ _ _ _ (c .before .before .before .before .before .before .before .before .before .part4 .ensures .1 .1 .0) (c .before .before .before .before .before .before .before .before .before .part4 .ensures .1 .1 .1) (c .before .before .before .before .before .before .before .before .before .before .before .before .part3 .ensures .1 .1 .1)))), laws.counted _ _ (c .put2 .ensures .1 .1 .0)))
 
 returns-3 : tie.Need-returns-3
-returns-3 c = (laws.text-long _ _ [] [] [] [] (c .before .before .before .enum-told .given .1) (c .put3 .ensures .0), laws.counted _ _ (c .put3 .ensures .1 .1))
+returns-3 c = (laws.text-long _ _ [] [] [] [] (c .before .before .before .enum-told .given .1) (c .put3 .ensures .0), (c .put3 .ensures .1 .1 .1, laws.counted _ _ (c .put3 .ensures .1 .1 .0)))
 
 returns-4 : tie.Need-returns-4
-returns-4 c = (laws.text-complete _ _ _ _ [] [] _ _ (c .before .before .before .before .before .before .before .before .before .before .row3 .given .1) (c .before .before .before .before .before .before .part7 .ensures .0) (c .before .before .before .part8 .ensures .0) (c .put4 .ensures .0), laws.counted _ _ (c .put4 .ensures .1 .1))
+returns-4 c = (laws.text-complete _ _ _ _ [] [] _ _ (c .before .before .before .before .before .before .before .before .before .before .row3 .given .1) (c .before .before .before .before .before .before .part7 .ensures .0) (c .before .before .before .part8 .ensures .0) (c .put4 .ensures .0), (laws.stays-later (c .before .before .before .part8 .result) (c .put4 .result) _ _ _ (omega (arith, c .put4 .ensures .1 .0)) (c .put4 .ensures .1 .1 .1) (laws.stays-later _ _ _ _ _ (c .before .before .before .part8 .ensures .1 .1 .0) (c .before .before .before .part8 .ensures .1 .1 .1) (c .before .before .before .before .before .before .part7 .ensures .1 .1 .1)), laws.counted _ _ (c .put4 .ensures .1 .1 .0)))
 
 returns-5 : tie.Need-returns-5
-returns-5 c = (laws.text-refused _ _ _ _ _ [] _ (c .before .before .before .before .before .before .before .before .before .before .before .before .before .row4 .given .1) (c .before .before .before .before .before .before .before .before .before .part9 .ensures .0) (c .before .before .before .before .before .before .part10 .ensures .0) (c .before .before .before .part11 .ensures .0) (c .put5 .ensures .0), laws.counted _ _ (c .put5 .ensures .1 .1))
+returns-5 c = (laws.text-refused _ _ _ _ _ [] _ (c .before .before .before .before .before .before .before .before .before .before .before .before .before .row4 .given .1) (c .before .before .before .before .before .before .before .before .before .part9 .ensures .0) (c .before .before .before .before .before .before .part10 .ensures .0) (c .before .before .before .part11 .ensures .0) (c .put5 .ensures .0), (laws.stays-later (c .before .before .before .part11 .result) (c .put5 .result) _ _ _ (omega (arith, c .put5 .ensures .1 .0)) (c .put5 .ensures .1 .1 .1) (laws.stays-later _ _ _ _ _ (c .before .before .before .part11 .ensures .1 .1 .0) (c .before .before .before .part11 .ensures .1 .1 .1) (laws.stays-later _ _ _ _ _ (c .before .before .before .before .before .before .part10 .ensures .1 .1 .0) (c .before .before .before .before .before .before .part10 .ensures .1 .1 .1) (c .before .before .before .before .before .before .before .before .before .part9 .ensures .1 .1 .1))), laws.counted _ _ (c .put5 .ensures .1 .1 .0)))
 
 pub spell-spec : {M : Type 1} → statement M
 spell-spec =

@@ -1,6 +1,7 @@
 -- A negative number is turned, one that is not is kept; both fit.
 use borrow.Author.Needs.{needs}
 use mir.Facts.{toZ-ofZ}
+use Rattle.words.proofs.Laws as numbers
 use Rattle.script.proofs.Laws as laws
 use Rattle.script.proofs.magnitude.Statement.{statement}
 use Rattle.script.proofs.magnitude.Tie as tie
@@ -18,7 +19,7 @@ returns-2 : tie.Need-returns-2
 returns-2 c = search needs
 
 cast-result-2 : tie.Need-cast-result-2
-cast-result-2 c = laws.not-below _ (c .before .before .args .v) (toZ-ofZ (c .before .before .fits .v)) (c .before .before .fits .v) (c .if2 .left)
+cast-result-2 c = numbers.natural-fits _ (c .before .before .args .v) (toZ-ofZ (c .before .before .fits .v)) (c .if2 .left) (c .before .before .fits .v)
 
 returns-3 : tie.Need-returns-3
 returns-3 c = search needs

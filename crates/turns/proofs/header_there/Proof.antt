@@ -1,8 +1,10 @@
--- All three tests hold, so nothing is wrong.
-use Rattle.turns.specs.Turn.{headerOf, headerTests}
-use Rattle.checks.specs.Tests.{firstFault}
-use Rattle.words.proofs.Laws.{both-l, both-r}
-use mathlib.Core.Path.{sym, _∙_}
+-- The three tests of a header, on its numbers as read.
+use Prim.Native.Nat.{ℕ}
+use lib.Dec.{eqb}
+use Rattle.words.specs.Tests.{bothOf}
+use Rattle.checks.proofs.Holding.{all-three}
+use Rattle.turns.specs.Turn.{headerTests}
+use mathlib.Core.Path.{ap, ap₂, _∙_}
 use borrow.Author.Needs.{needs}
 use Rattle.turns.proofs.header_there.Statement.{statement}
 use Rattle.turns.proofs.header_there.Tie as tie
@@ -29,14 +31,13 @@ both-requires-2 : tie.Need-both-requires-2
 both-requires-2 c κs = search needs
 
 returns : tie.Need-returns
-unfolding headerOf headerTests firstFault
-returns c = λ x.
-    let all = sym (c .both2 .ensures) ∙ x in
-    let tail = sym (c .before .both .ensures) ∙ both-r (c .before .before .before .before .before .is .result) (c .before .both .result) all in
-    let a = sym (c .before .before .before .before .before .is .ensures) ∙ both-l (c .before .before .before .before .before .is .result) (c .before .both .result) all in
-    let b = sym (c .before .before .codes-are .ensures) ∙ both-l (c .before .before .codes-are .result) (c .before .before .before .is2 .result) tail in
-    let e = sym (c .before .before .before .is2 .ensures) ∙ both-r (c .before .before .codes-are .result) (c .before .before .before .is2 .result) tail in
-    simp (← c .before .before .before .before .before .before .four-there .ensures .0, a, b, ← c .before .before .before .before .four-there2 .ensures .0, e)
+unfolding headerTests
+returns c =
+    c .both2 .ensures
+    ∙ ap₂ bothOf (c .before .before .before .before .before .is .ensures ∙ ap (λ (n : ℕ). eqb n (c .before .before .before .before .before .before .before .before .args .ordinal)) (c .before .before .before .before .before .before .four-there .ensures .0))
+    (c .before .both .ensures
+    ∙ ap₂ bothOf (c .before .before .codes-are .ensures) (c .before .before .before .is2 .ensures ∙ ap (λ (n : ℕ). eqb n (c .before .before .before .before .before .before .before .before .args .long)) (c .before .before .before .before .four-there2 .ensures .0)))
+    ∙ all-three _ _ _
 
 pub header-there-spec : {M : Type 1} → statement M
 header-there-spec =

@@ -10,7 +10,7 @@ use Rattle.plan.specs.declared.Codes.{Codes}
 use Rattle.checks.specs.declared.Verdict.{Verdict}
 use Rattle.turns.specs.Turn.{Near, onFine, headerOf}
 use Rattle.turns.specs.declared.Turn.the-variants.{Pass, Halt}
-use Rattle.turns.proofs.NearLaws.{body-near, header-near}
+use Rattle.turns.proofs.FaultLaws.{body-near, header-near}
 use Rattle.turns.proofs.judge.Tie as tie
 use Rattle.turns.proofs.TurnLaws as laws
 

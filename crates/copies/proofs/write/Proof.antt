@@ -1,0 +1,68 @@
+-- The fours, then one sample more each turn: the row so far is the samples written, then the old row behind them.
+use Prim.Native.Nat.{ℕ, _-_, _≤_}
+use mathlib.Core.Path.{_≡_, refl, ap, _∙_}
+use mathlib.Core.List.{List, _++_}
+use native.Mathlib.Omega.{arith}
+use borrow.Author.Needs.{needs}
+use lib.ListN.{length, drop}
+use Rattle.copies.specs.Row.{samples}
+use Rattle.copies.proofs.RowLaws.{row-again, row-behind, row-more, row-all}
+use Rattle.copies.proofs.write.Statement.{statement}
+use Rattle.copies.proofs.write.Tie as tie
+
+abbrev Inv-loop : tie.InvT-loop
+Inv-loop px count row₀ j₀ row j = (j ≤ count) × (row ≡ samples j px ++ drop j row₀) × (length row ≡ length row₀)
+
+abbrev μ-loop : tie.MeasureT-loop
+μ-loop px count row₀ j₀ row j = count - j
+
+write-fours-requires : tie.Need-write-fours-requires Inv-loop μ-loop
+write-fours-requires c κs = search needs
+
+loop-holds : tie.Need-loop-holds Inv-loop μ-loop
+loop-holds c = (c .before .before .write-fours .ensures .0, row-again (c .before .before .write-fours .result) (c .before .before .before .before .before .before .args .px .now) (c .before .before .before .before .before .before .args .row .now) _ (c .before .before .write-fours .ensures .1), search needs)
+
+mul-sample : tie.Need-mul-sample Inv-loop μ-loop
+mul-sample c = search needs
+
+sample-requires : tie.Need-sample-requires Inv-loop μ-loop
+sample-requires c κs = search needs
+
+mul-row : tie.Need-mul-row Inv-loop μ-loop
+mul-row c = search needs
+
+slice-write-row : tie.Need-slice-write-row Inv-loop μ-loop
+slice-write-row c = search needs
+
+add-j : tie.Need-add-j Inv-loop μ-loop
+add-j c = search needs
+
+loop-less : tie.Need-loop-less Inv-loop μ-loop
+loop-less c = search needs
+
+loop-again : tie.Need-loop-again Inv-loop μ-loop
+loop-again c = (search needs, row-more (c .before .before .loop .j) _ _ (c .sample .result) (c .before .before .before .before .before .before .before .before .before .args .px .now) _ (c .before .before .loop .row) (omega arith) refl refl (c .before .before .loop .inv .1) (c .sample .ensures), search needs)
+
+same-length : tie.Need-same-length Inv-loop μ-loop
+same-length c = search needs
+
+returns : tie.Need-returns Inv-loop μ-loop
+returns c = row-all (c .before .loop .j) (c .before .before .before .before .before .before .before .before .args .count) (c .before .before .before .before .before .before .before .before .args .px .now) _ (c .before .loop .row) (c .before .loop .inv .0) (omega arith) (c .before .loop .inv .1) ∙ ap (λ (l : List ℕ). samples (c .before .before .before .before .before .before .before .before .args .count) (c .before .before .before .before .before .before .before .before .args .px .now) ++ l) (row-behind (c .before .before .before .before .write-fours .result) (c .before .before .before .before .before .before .before .before .args .px .now) (c .before .before .before .before .before .before .before .before .args .row .now) _ (c .before .before .before .before .write-fours .ensures .1) (c .before .before .before .before .before .before .before .before .args .count) (c .before .before .before .before .write-fours .ensures .0))
+
+pub write-spec : {M : Type 1} → statement M
+write-spec =
+    tie.close
+    (tie.spec
+    Inv-loop
+    μ-loop
+    write-fours-requires
+    loop-holds
+    mul-sample
+    sample-requires
+    mul-row
+    slice-write-row
+    add-j
+    loop-less
+    loop-again
+    same-length
+    returns)

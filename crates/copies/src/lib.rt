@@ -1,0 +1,92 @@
+// The row copy (document 01, "Lines, rows, sets"): what the line view shows, as 16-bit numbers in a row
+// that the caller lends.
+use lines::View;
+use words::Refusal;
+ghost use mathlib.Core.Path.{_≡_};
+ghost use mathlib.Core.List.{_++_};
+ghost use Prim.Native.Nat.{_+_, _*_, _≤_};
+ghost use lib.ListN.{length, drop};
+ghost use Rattle.words.specs.Words.{twoAt};
+ghost use Rattle.plan.specs.Plan.{group};
+ghost use Rattle.lines.specs.View.{bareRefusal};
+ghost use Rattle.copies.specs.Row.{samples, copiedOf, rowOf};
+
+// What the row copy answers: how many samples were copied; or a wait or a refusal, and nothing was.
+pub enum Copied {
+    Done(u64),
+    Wait(u64),
+    Refused(Refusal),
+}
+
+// A sample of two bytes that are there, high byte first.
+fn sample(px: &[u8], at: usize) -> u16
+    requires { ⌜ at + 2 ≤ length (now px) ⌝ }
+    ensures { λ r. ⌜ r ≡ twoAt (now (px .entry)) at ⌝ }
+{
+    let high = px[at];
+    let low = px[at + 1];
+    high as u16 * 256 + low as u16
+}
+
+// Four samples a turn while four are left, and how many that made: for speed alone (docs/SPEED.md),
+// since the compiler takes one sample a turn to slow code.
+fn write_fours(px: &[u8], count: usize, row: &mut [u16]) -> usize
+    requires { ⌜ (group * count ≤ length (now px)) × (count ≤ length (now row)) ⌝ }
+    ensures { λ n. ⌜ n ≤ count ⌝ }
+    ensures { λ n. ⌜ now (row .exit) ≡ samples n (now (px .entry)) ++ drop n (now (row .entry)) ⌝ }
+{
+    let mut j = 0;
+    while 4 <= count - j {
+        row[j] = sample(px, 2 * j);
+        row[j + 1] = sample(px, 2 * j + 2);
+        row[j + 2] = sample(px, 2 * j + 4);
+        row[j + 3] = sample(px, 2 * j + 6);
+        j += 4;
+    }
+    j
+}
+
+// That many samples of two bytes, high byte first, to the row's start; later samples stay.
+fn write(px: &[u8], count: usize, row: &mut [u16])
+    requires { ⌜ (group * count ≤ length (now px)) × (count ≤ length (now row)) ⌝ }
+    ensures { λ _. ⌜ now (row .exit) ≡ samples count (now (px .entry)) ++ drop count (now (row .entry)) ⌝ }
+{
+    let mut j = write_fours(px, count, row);
+    while j < count {
+        row[j] = sample(px, 2 * j);
+        j += 1;
+    }
+}
+
+// The row is shorter than the line's data pixels: 15, which names no record.
+fn short_row() -> Refusal
+    ensures { λ r. ⌜ r ≡ bareRefusal 15 ⌝ }
+{
+    Refusal {
+        number: 15,
+        record: 0,
+        place: 0,
+    }
+}
+
+// The row copy: the line's data pixels as 16-bit numbers to the start of the lent row. 15 comes last;
+// on a wait or a refusal every sample stays.
+pub fn row_copy(bytes: &[u8], k: u64, row: &mut [u16]) -> Copied
+    ensures { λ r. ⌜ r ≡ copiedOf (now (bytes .entry)) k (length (now (row .entry))) ⌝ }
+    ensures { λ r. ⌜ now (row .exit) ≡ rowOf (now (bytes .entry)) k (now (row .entry)) ⌝ }
+{
+    let v = lines::line_view(bytes, k);
+    match v {
+        View::Wait(n) => Copied::Wait(n),
+        View::Refused(r) => Copied::Refused(r),
+        View::Shown(start, count, _) => {
+            if (row.len() as u64) < count {
+                return Copied::Refused(short_row());
+            }
+            let from = start as usize;
+            let to = (start + plan::GROUP * count) as usize;
+            write(&bytes[from..to], count as usize, row);
+            Copied::Done(count)
+        }
+    }
+}
