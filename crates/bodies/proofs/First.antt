@@ -18,9 +18,10 @@ use Rattle.leader.specs.Leader.{pair, pairs, pairRow, admitted, admittedPair, c
 use Rattle.image.specs.Image.{agreements, imageTests, imageRecord}
 use Rattle.bodies.specs.Bodies.{volumeTests, volumeRecord, bodyTests, bodyOf}
 use Rattle.bodies.specs.Named.{planOf}
-use Rattle.checks.specs.declared.Verdict.the-variants.{Fine}
+use Rattle.verdicts.specs.declared.Verdict.the-variants.{Fine}
 use Rattle.leader.proofs.FillLaws.{map-at}
-use Rattle.checks.proofs.Holding.{Holds, fine-holds, holds-split, each-holds, row-holds}
+use Rattle.verdicts.proofs.Holding.{Holds, fine-holds, holds-split, each-holds}
+use Rattle.checks.proofs.Rows.{row-holds}
 use Rattle.image.proofs.ImageLaws.{bounded}
 use Rattle.leader.proofs.PairLaws.{length-none, count-in, length-in}
 use Rattle.leader.proofs.TableLaws.{admitted-bound, admitted-row}

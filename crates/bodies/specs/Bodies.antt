@@ -7,9 +7,9 @@ use Rattle.words.specs.Tests.{pick}
 use Rattle.decimal.specs.Text.{bytes}
 use Rattle.plan.specs.Plan.{volume, leader, image}
 use Rattle.plan.specs.declared.Plan.{Plan}
-use Rattle.checks.specs.Tests.{Test, firstFault, textTest}
+use Rattle.verdicts.specs.Tests.{Test, firstFault, textTest}
 use Rattle.checks.specs.Parts.{numbersTests, firstText}
-use Rattle.checks.specs.declared.Verdict.{Verdict}
+use Rattle.verdicts.specs.declared.Verdict.{Verdict}
 use Rattle.leader.specs.Leader.{leaderRecord}
 use Rattle.image.specs.Image.{imageRecord}
 

@@ -3,11 +3,11 @@
 // names. The leader's and the image's rules stand in crates of their own. Places are in the record, from 0.
 mod volume;
 
-use checks::Verdict;
 use decimal::Form;
 use plan::Plan;
+use verdicts::Verdict;
 ghost use mathlib.Core.Path.{_≡_};
-ghost use Rattle.checks.specs.Tests.{firstFault};
+ghost use Rattle.verdicts.specs.Tests.{firstFault};
 ghost use Rattle.bodies.specs.Bodies.{trailerTests, bodyOf};
 ghost use Rattle.bodies.specs.Named.{planOf};
 

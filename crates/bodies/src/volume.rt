@@ -1,8 +1,8 @@
 // The volume directory: its descriptor, pointers and text record.
-use checks::Verdict;
+use verdicts::Verdict;
 ghost use mathlib.Core.Path.{_≡_};
 ghost use Rattle.words.specs.Words.{placeOf};
-ghost use Rattle.checks.specs.Tests.{firstFault, textTest};
+ghost use Rattle.verdicts.specs.Tests.{firstFault, textTest};
 ghost use Rattle.bodies.specs.Bodies.{volumeTests, pointerTests, classText, volumeRecord};
 ghost use mathlib.Core.List.{[], _∷_};
 
@@ -21,12 +21,12 @@ fn class(m: u64, k: u64, r: &[u8]) -> Verdict
     ensures { λ v. ⌜ v ≡ firstFault (textTest (now (r .entry)) 65 (classText m k) ∷ []) ⌝ }
 {
     if k == 1 {
-        return checks::fixed(r, 65, b"SARL");
+        return verdicts::fixed(r, 65, b"SARL");
     }
     if k == m {
-        return checks::fixed(r, 65, b"SART");
+        return verdicts::fixed(r, 65, b"SART");
     }
-    checks::fixed(r, 65, b"IMOP")
+    verdicts::fixed(r, 65, b"IMOP")
 }
 
 fn pointer(m: u64, k: u64, r: &[u8]) -> Verdict

@@ -18,10 +18,10 @@ use Rattle.fields.proofs.Field.{the-type}
 use Rattle.fields.specs.declared.Field.the-variants.{Value, Blank, Refused}
 use Rattle.walk.specs.declared.State.{State}
 use Rattle.answers.specs.Told.{fiveOf}
-use Rattle.capi.specs.Numbers.{stateNumber, numbersOf}
+use Rattle.numbers.specs.Numbers.{stateNumber, numbersOf}
 use Rattle.capi.specs.Boundary.{answered, behind, valueBy}
 use Rattle.answers.specs.declared.Told.{Told}
-use Rattle.capi.proofs.ListLaws.{from-length}
+use Rattle.numbers.proofs.ListLaws.{from-length}
 
 -- a field that is no value leaves the value array as it is
 pub value-stays : (x : Field) (v : List ℤ) → OneOf (1 ∷ 2 ∷ []) (tagOf the-type x) → v ≡ valueBy x v

@@ -1,3 +1,3 @@
 pub mod ListLaws
 pub mod CallLaws
-pub mod Back
+pub mod Stays

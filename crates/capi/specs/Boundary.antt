@@ -16,7 +16,7 @@ use Rattle.walk.specs.Said.{stopAs, beginningAs}
 use Rattle.walk.specs.declared.Walked.{Walked}
 use Rattle.copies.specs.Row.{rowOf}
 use Rattle.answers.specs.Told.{fieldSaid, fiveOf, toldOf}
-use Rattle.capi.specs.Numbers.{stateIn, numbersOf}
+use Rattle.numbers.specs.Numbers.{stateIn, numbersOf}
 
 -- an array has room for n numbers
 abbrev pub fits : ℕ → List ℕ → Bool

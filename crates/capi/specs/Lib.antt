@@ -1,3 +1,2 @@
--- The specs of `capi`: the numbers that cross the C boundary, and what each call leaves behind.
-pub mod Numbers
+-- The specs of `capi`: what each call over the C boundary leaves behind.
 pub mod Boundary

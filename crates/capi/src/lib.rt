@@ -1,12 +1,10 @@
 // The C boundary (include/seobangyu.h): each entry point on numbers and slices. It assumes nothing of
 // what it is handed: an array that is too short is answered with 0, and then nothing is written.
 use fields::Field;
-use plan::Plan;
 use walk::State;
 ghost use mathlib.Core.Path.{_≡_};
-ghost use mathlib.Core.List.{_++_};
-ghost use Prim.Native.Nat.{_<_, _≤_};
-ghost use lib.ListN.{length, drop};
+ghost use Prim.Native.Nat.{_≤_};
+ghost use lib.ListN.{length};
 ghost use Rattle.plan.specs.Plan.{group};
 ghost use Rattle.lines.specs.View.{viewOf};
 ghost use Rattle.copies.specs.Row.{copiedOf};
@@ -16,7 +14,6 @@ ghost use Rattle.sets.specs.Set.{setOf};
 ghost use Rattle.sets.specs.Said.{agreementAs};
 ghost use Rattle.capi.specs.Boundary.{fits, room, answered, begunState, begunAnswer, walkedState, walkedAnswer, startIn};
 ghost use Rattle.capi.specs.Boundary.{valueRoom, valueBy, fieldValue, fieldAnswer, answerOf, rowBehind};
-ghost use Rattle.capi.specs.Numbers.{pairNumber, stateNumber, numbersOf, everySecond, stateIn};
 
 // How many numbers a state, an answer and a value have.
 const STATE: usize = 42;
@@ -24,86 +21,6 @@ const STATE: usize = 42;
 const ANSWER: usize = 5;
 
 const VALUE: usize = 2;
-
-// Number j of a plan's pairs: count and length in turn.
-fn pair_number(p: Plan, j: usize) -> u64
-    requires { ⌜ j < 34 ⌝ }
-    ensures { λ r. ⌜ r ≡ pairNumber p j ⌝ }
-{
-    let c = p.counts;
-    let l = p.lengths;
-    if j % 2 == 0 {
-        return c[j / 2];
-    }
-    l[j / 2]
-}
-
-// Number i of a state.
-fn number(st: State, i: usize) -> u64
-    requires { ⌜ i < 42 ⌝ }
-    ensures { λ r. ⌜ r ≡ stateNumber st i ⌝ }
-{
-    let p = st.plan;
-    if i < 3 {
-        let first = [st.kind, st.passed, p.pointers];
-        return first[i];
-    }
-    if i < 37 {
-        return pair_number(p, i - 3);
-    }
-    let last = [p.n, p.l, p.w, p.d, p.s];
-    last[i - 37]
-}
-
-// A state's numbers to the start of the state array; later numbers stay.
-fn put(st: State, state: &mut [u64])
-    requires { ⌜ 42 ≤ length (now state) ⌝ }
-    ensures { λ _. ⌜ now (state .exit) ≡ numbersOf st ++ drop 42 (now (state .entry)) ⌝ }
-{
-    let mut i: usize = 0;
-    while i < STATE {
-        state[i] = number(st, i);
-        i += 1;
-    }
-}
-
-// Every second number from number i on: the counts, or the lengths.
-fn every_second(i: usize, state: &[u64]) -> [u64; 17]
-    requires { ⌜ (i ≤ 4) × (42 ≤ length (now state)) ⌝ }
-    ensures { λ r. ⌜ r ≡ everySecond i (now (state .entry)) ⌝ }
-{
-    let mut a = [0u64; 17];
-    let mut j: usize = 0;
-    while j < 17 {
-        a[j] = state[i + 2 * j];
-        j += 1;
-    }
-    a
-}
-
-// The state that the numbers are.
-fn get(state: &[u64]) -> State
-    requires { ⌜ 42 ≤ length (now state) ⌝ }
-    ensures { λ r. ⌜ r ≡ stateIn (now (state .entry)) ⌝ }
-{
-    let counts = every_second(3, state);
-    let lengths = every_second(4, state);
-    let p = Plan {
-        pointers: state[2],
-        counts,
-        lengths,
-        n: state[37],
-        l: state[38],
-        w: state[39],
-        d: state[40],
-        s: state[41],
-    };
-    State {
-        kind: state[0],
-        passed: state[1],
-        plan: p,
-    }
-}
 
 // A value's number and exponent to the start of the value array; where there is no value, all stay.
 fn put_value(x: Field, value: &mut [i64])
@@ -132,7 +49,7 @@ pub extern "C" fn sbg_begin(kind: u64, state: &mut [u64], answer: &mut [u64]) ->
     let begun = State::none().begin(kind);
     let st = begun.state;
     let x = begun.answer;
-    put(st, state);
+    numbers::put(st, state);
     answers::say(answers::told_beginning(x), answer);
     1
 }
@@ -156,11 +73,11 @@ pub extern "C" fn sbg_walk(
     if answer.len() < ANSWER {
         return 0;
     }
-    let st = get(state);
+    let st = numbers::get(state);
     let w = st.walk(bytes, closed != 0, budget);
     let moved = w.state;
     let x = w.stop;
-    put(moved, state);
+    numbers::put(moved, state);
     answers::say(answers::told_stop(x, w.count), answer);
     1
 }
@@ -173,7 +90,7 @@ pub extern "C" fn sbg_start(state: &[u64]) -> u64
     if state.len() < STATE {
         return 0;
     }
-    get(state).start()
+    numbers::get(state).start()
 }
 
 // A listed field: a value's number and exponent go to the value array.

@@ -1,3 +1,2 @@
--- The specs of `checks`: lists of tests, and the parts that the bodies of several records share.
-pub mod Tests
+-- The specs of `checks`: the parts that the bodies of several records share.
 pub mod Parts

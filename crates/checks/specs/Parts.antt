@@ -11,7 +11,7 @@ use Rattle.decimal.specs.declared.Form.the-variants.{I4, I6, I8}
 use Rattle.fields.specs.Field.{fieldAt}
 use Rattle.fields.specs.declared.Field.{Field}
 use Rattle.plan.specs.Plan.{group}
-use Rattle.checks.specs.Tests.{Test, each, textTest, numberTests, numberOf}
+use Rattle.verdicts.specs.Tests.{Test, each, textTest, numberTests, numberOf}
 use Rattle.checks.specs.declared.Number.{Number}
 
 -- a field of a record, by its first byte and form; and the number that it says (0 where it says none)

@@ -1,22 +1,13 @@
-// What the bodies of all records share (document 01, "The record and the walk", step 7): a rule is a test
-// with the fault that it names (a fixed text, a number field by its form and range, a count), and the
-// verdict on a record is its first fault. Places are in the record, from 0.
+// What the bodies of several records share (document 01, "The record and the walk", step 7): the text
+// of a first record, the field at a byte of that page, and the number fields of each record by position.
 use decimal::Form;
 use fields::Field;
+use verdicts::Verdict;
 ghost use mathlib.Core.Path.{_≡_};
-ghost use Prim.Native.Nat.{_+_, _<_, _≤_};
+ghost use Prim.Native.Nat.{_<_, _≤_};
 ghost use mathlib.Core.List.{[], _∷_};
-ghost use lib.ListN.{length};
-ghost use Rattle.words.specs.Words.{placeOf};
-ghost use Rattle.checks.specs.Tests.{test, firstFault, textAt, textTest, numberTests, countTests, readableTest};
-ghost use Rattle.checks.specs.Tests.{unreadNumber, unreadPlace, wholeIn, wholeOf, numberOf};
+ghost use Rattle.verdicts.specs.Tests.{firstFault, wholeOf, numberOf};
 ghost use Rattle.checks.specs.Parts.{firstText, at, numberAt, numberRow, numbersTests, rowTests};
-
-// What was found in a record: nothing wrong, or the first fault's number and its place in the record.
-pub enum Verdict {
-    Fine,
-    Fault(u64, u64),
-}
 
 // A number field that must be a number in a range: first byte as document 01 counts, form, ends.
 pub struct Number {
@@ -103,58 +94,11 @@ fn number_row(i: usize) -> Number
     NUMBERS[i]
 }
 
-// The bytes from document 01's byte on are this text.
-fn text(r: &[u8], byte: usize, t: &[u8]) -> bool
-    requires { ⌜ byte + length (now t) < 1000 ⌝ }
-    ensures { λ x. ⌜ x ≡ textAt (now (r .entry)) (placeOf byte) (now (t .entry)) ⌝ }
-{
-    let at = words::place(byte);
-    let mut i = 0;
-    while i < t.len() {
-        if words::byte(r, at + i) != t[i] as u64 {
-            return false;
-        }
-        i += 1;
-    }
-    true
-}
-
-// A fixed text: 8 at its first byte.
-pub fn fixed(r: &[u8], byte: usize, t: &[u8]) -> Verdict
-    requires { ⌜ byte + length (now t) < 1000 ⌝ }
-    ensures { λ v. ⌜ v ≡ firstFault (textTest (now (r .entry)) byte (now (t .entry)) ∷ []) ⌝ }
-{
-    if text(r, byte, t) {
-        return Verdict::Fine;
-    }
-    Verdict::Fault(8, words::place(byte) as u64)
-}
-
 // Every file's first record has `Ab` at 13-14.
 pub fn first_text(r: &[u8]) -> Verdict
     ensures { λ v. ⌜ v ≡ firstFault (firstText (now (r .entry)) ∷ []) ⌝ }
 {
-    fixed(r, 13, b"A ")
-}
-
-// The refusal of a field that is no value: its own, or 6 where it is blank.
-fn unread(f: Field, at: u64) -> Verdict
-    ensures { λ r. ⌜ r ≡ Verdict.Fault (unreadNumber f) (unreadPlace at f) ⌝ }
-{
-    match f {
-        Field::Refused(x) => Verdict::Fault(x.number, x.place),
-        _ => Verdict::Fault(6, at),
-    }
-}
-
-// A signed number lies in a range.
-fn whole_in(lo: u64, v: i64, hi: u64) -> bool
-    ensures { λ r. ⌜ r ≡ wholeIn lo v hi ⌝ }
-{
-    if v < 0 {
-        return false;
-    }
-    words::within(lo, v as u64, hi)
+    verdicts::fixed(r, 13, b"A ")
 }
 
 // The number that a value says; 0 where it is negative.
@@ -177,47 +121,6 @@ fn number_of(f: Field) -> u64
     whole(v)
 }
 
-// Range, at a place.
-fn ranged(good: bool, at: u64) -> Verdict
-    ensures { λ r. ⌜ r ≡ firstFault (test good 7 at ∷ []) ⌝ }
-{
-    if good {
-        return Verdict::Fine;
-    }
-    Verdict::Fault(7, at)
-}
-
-// A field that must be a number in a range: form (6), then range (7).
-pub fn needed(f: Field, at: u64, lo: u64, hi: u64) -> Verdict
-    ensures { λ r. ⌜ r ≡ firstFault (numberTests f at lo hi) ⌝ }
-{
-    let Field::Value(v, _) = f else {
-        return unread(f, at);
-    };
-    ranged(whole_in(lo, v, hi), at)
-}
-
-// A listed field: a value or blank.
-pub fn readable(f: Field, at: u64) -> Verdict
-    ensures { λ r. ⌜ r ≡ firstFault (readableTest f at ∷ []) ⌝ }
-{
-    match f {
-        Field::Refused(x) => Verdict::Fault(x.number, x.place),
-        _ => Verdict::Fine,
-    }
-}
-
-// A count, which may be blank.
-pub fn counted(f: Field, at: u64, lo: u64, hi: u64) -> Verdict
-    ensures { λ r. ⌜ r ≡ firstFault (countTests f at lo hi) ⌝ }
-{
-    match f {
-        Field::Value(v, _) => ranged(whole_in(lo, v, hi), at),
-        Field::Blank => ranged(words::within(lo, 0, hi), at),
-        Field::Refused(x) => Verdict::Fault(x.number, x.place),
-    }
-}
-
 // The field at document 01's byte.
 pub fn field(r: &[u8], byte: usize, form: Form) -> Field
     ensures { λ x. ⌜ x ≡ at (now (r .entry)) byte form ⌝ }
@@ -237,7 +140,7 @@ fn row_verdict(r: &[u8], x: Number) -> Verdict
 {
     let form = x.form;
     let byte = x.byte;
-    needed(
+    verdicts::needed(
         field(r, byte, form),
         words::place(byte) as u64,
         x.least,

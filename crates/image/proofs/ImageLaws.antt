@@ -8,11 +8,12 @@ use borrow.Author.Tests.{eq-eqb, ne-eqb, le-leb, lt-leb}
 use Rattle.words.specs.Tests.{bothOf}
 use Rattle.words.specs.Words.{placeOf, fourAt}
 use Rattle.decimal.specs.declared.Form.the-variants.{I4, I6, I8}
-use Rattle.checks.specs.Tests.{firstFault, allHold}
+use Rattle.verdicts.specs.Tests.{firstFault, allHold}
 use Rattle.checks.specs.Parts.{numberAt, numberRow, numbersTests}
 use Rattle.image.specs.Image.{agreements, lineTests}
-use Rattle.checks.specs.declared.Verdict.the-variants.{Fine, Fault}
-use Rattle.checks.proofs.Holding.{Holds, row-holds, all-three}
+use Rattle.verdicts.specs.declared.Verdict.the-variants.{Fine, Fault}
+use Rattle.verdicts.proofs.Holding.{Holds, all-three}
+use Rattle.checks.proofs.Rows.{row-holds}
 
 -- the numbers that the agreements and the plan use
 pub record Bounded (r : List ℕ) : Type 0 where

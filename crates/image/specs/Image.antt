@@ -8,7 +8,7 @@ use Rattle.words.specs.Words.{placeOf, fourAt}
 use Rattle.decimal.specs.Text.{bytes}
 use Rattle.decimal.specs.declared.Form.the-variants.{I4, I6, I8}
 use Rattle.plan.specs.Plan.{group, ahead}
-use Rattle.checks.specs.Tests.{Test, test, textTest}
+use Rattle.verdicts.specs.Tests.{Test, test, textTest}
 use Rattle.checks.specs.Parts.{numberAt, numbersTests, firstText}
 
 -- both line counts equal; d is a group for each pixel; what goes before, the data and the suffix fit L

@@ -1,14 +1,14 @@
 // The image's records (document 01, "First records and what they promise"): its descriptor, and the
 // lines. Places are in the record, from 0.
-use checks::Verdict;
 use decimal::Form;
+use verdicts::Verdict;
 ghost use mathlib.Core.Path.{_≡_};
 ghost use Prim.Native.Nat.{_≤_};
 ghost use lib.ListN.{length};
-ghost use Rattle.checks.specs.Tests.{firstFault, allHold};
+ghost use Rattle.verdicts.specs.Tests.{firstFault, allHold};
 ghost use Rattle.checks.specs.Parts.{numbersTests};
 ghost use Rattle.image.specs.Image.{imageTests, agreements, lineTests, imageRecord};
-ghost use Rattle.checks.specs.declared.Verdict.the-variants.{Fine};
+ghost use Rattle.verdicts.specs.declared.Verdict.the-variants.{Fine};
 
 // Both line counts equal; d is a group for each pixel; what goes before, the data and the suffix
 // fit L. The numbers have passed their ranges, so no sum wraps.
@@ -41,7 +41,7 @@ fn descriptor(r: &[u8]) -> Verdict
     let Verdict::Fine = ab else {
         return ab;
     };
-    let sort = checks::fixed(r, 429, b"IU2 ");
+    let sort = verdicts::fixed(r, 429, b"IU2 ");
     let Verdict::Fine = sort else {
         return sort;
     };

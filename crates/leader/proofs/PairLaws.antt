@@ -9,14 +9,14 @@ use Rattle.words.specs.Tests.{pick}
 use Rattle.words.specs.Words.{placeOf}
 use Rattle.decimal.specs.declared.Form.the-variants.{I6}
 use Rattle.plan.specs.Tables.{slotOf}
-use Rattle.checks.specs.Tests.{Test, firstFault, countTests, numberTests}
+use Rattle.verdicts.specs.Tests.{Test, firstFault, countTests, numberTests}
 use Rattle.checks.specs.Parts.{at, numberAt}
 use Rattle.leader.specs.Leader.{countAt, lengthAt, pairTests}
 use Rattle.leader.specs.declared.Pair.{Pair}
-use Rattle.checks.specs.declared.Verdict.{Verdict}
-use Rattle.checks.specs.declared.Verdict.the-variants.{Fine, Fault}
-use Rattle.checks.proofs.TestLaws.{found, passed}
-use Rattle.checks.proofs.Holding.{Holds, holds-split, number-holds, count-holds}
+use Rattle.verdicts.specs.declared.Verdict.{Verdict}
+use Rattle.verdicts.specs.declared.Verdict.the-variants.{Fine, Fault}
+use Rattle.verdicts.proofs.TestLaws.{found, passed}
+use Rattle.verdicts.proofs.Holding.{Holds, holds-split, number-holds, count-holds}
 
 module _ (r : List ℕ) (x : Pair) where
   -- the tests of the count, and those of the length

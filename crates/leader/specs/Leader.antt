@@ -13,7 +13,7 @@ use Rattle.fields.specs.Listed.{table}
 use Rattle.fields.specs.declared.Listed.{Listed}
 use Rattle.plan.specs.Tables.{slotOf}
 use Rattle.plan.specs.declared.Slot.{Slot}
-use Rattle.checks.specs.Tests.{Test, each, numberTests, countTests, readableTest}
+use Rattle.verdicts.specs.Tests.{Test, each, numberTests, countTests, readableTest}
 use Rattle.checks.specs.Parts.{at, numberAt, firstText}
 use Rattle.leader.specs.declared.Pair.{Pair}
 

@@ -1,11 +1,11 @@
 // The leader's records (document 01, "First records and what they promise"): its descriptor of fifteen
 // slot pairs and eleven facility pairs, the listed fields of the summary and map records, and the counts
 // and lengths that the descriptor puts into the plan. Places are in the record, from 0.
-use checks::Verdict;
 use decimal::Form;
+use verdicts::Verdict;
 ghost use mathlib.Core.Path.{_≡_};
 ghost use Prim.Native.Nat.{_<_, _≤_};
-ghost use Rattle.checks.specs.Tests.{firstFault, each};
+ghost use Rattle.verdicts.specs.Tests.{firstFault, each};
 ghost use Rattle.leader.specs.Leader.{pairs, pairRow, admittedPair, countAt, lengthAt, pairTests, leaderTests, fieldsTests, leaderRecord};
 ghost use Rattle.leader.specs.Leader.{countsOf, lengthsOf};
 
@@ -196,7 +196,7 @@ fn pair_verdict(r: &[u8], x: Pair) -> Verdict
     let slot = plan::slot_at(x.row);
     let byte = x.byte;
     let place = words::place(byte) as u64;
-    let v = checks::counted(
+    let v = verdicts::counted(
         checks::field(r, byte, Form::I6),
         place,
         slot.least,
@@ -211,7 +211,7 @@ fn pair_verdict(r: &[u8], x: Pair) -> Verdict
     let form = x.form;
     let behind = byte + 6;
     let length = checks::field(r, behind, form);
-    checks::needed(
+    verdicts::needed(
         length,
         words::place(behind) as u64,
         slot.shortest,
@@ -254,7 +254,7 @@ fn listed(r: &[u8], from: usize, to: usize) -> Verdict
         let row = fields::listed_row(i);
         let form = row.form;
         let byte = row.first;
-        let v = checks::readable(checks::field(r, byte, form), words::place(byte) as u64);
+        let v = verdicts::readable(checks::field(r, byte, form), words::place(byte) as u64);
         let Verdict::Fine = v else {
             return v;
         };

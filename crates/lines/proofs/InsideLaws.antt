@@ -12,13 +12,13 @@ use Rattle.plan.specs.Plan.{image, group, spotOf, codesOf}
 use Rattle.plan.specs.declared.Plan.{Plan}
 use Rattle.plan.proofs.CodeLaws.{line-spot}
 use Rattle.plan.specs.declared.Spot.{Spot}
-use Rattle.checks.specs.Tests.{firstFault, andThen}
+use Rattle.verdicts.specs.Tests.{firstFault, andThen}
 use Rattle.image.specs.Image.{lineTests, imageRecord}
 use Rattle.bodies.specs.Bodies.{bodyTests, bodyOf}
-use Rattle.checks.specs.declared.Verdict.{Verdict}
-use Rattle.checks.specs.declared.Verdict.the-variants.{Fine, Fault}
-use Rattle.checks.proofs.Holding.{fine-holds}
-use Rattle.turns.specs.Turn.{headerOf}
+use Rattle.verdicts.specs.declared.Verdict.{Verdict}
+use Rattle.verdicts.specs.declared.Verdict.the-variants.{Fine, Fault}
+use Rattle.verdicts.proofs.Holding.{fine-holds}
+use Rattle.headers.specs.Header.{headerOf}
 use Rattle.turns.proofs.TurnLaws.{not-fine}
 use Rattle.lines.specs.View.{leftOf, dataOf, pixelsFrom, foundIn, recordAt, lineOf, firstOf, viewOf}
 use Rattle.lines.specs.declared.View.the-variants.{Shown}

@@ -15,11 +15,12 @@ use Rattle.words.specs.declared.Refusal.{Refusal}
 use Rattle.plan.specs.Plan.{image, spotOf, codesOf}
 use Rattle.plan.specs.declared.Plan.{Plan}
 use Rattle.plan.specs.declared.Spot.{Spot}
-use Rattle.checks.specs.Tests.{andThen}
+use Rattle.verdicts.specs.Tests.{andThen}
 use Rattle.bodies.specs.Bodies.{bodyOf}
-use Rattle.checks.specs.declared.Verdict.{Verdict}
-use Rattle.checks.specs.declared.Verdict.the-variants.{Fine, Fault}
-use Rattle.turns.specs.Turn.{Near, headerOf}
+use Rattle.verdicts.specs.declared.Verdict.{Verdict}
+use Rattle.verdicts.specs.declared.Verdict.the-variants.{Fine, Fault}
+use Rattle.headers.specs.Header.{headerOf}
+use Rattle.turns.specs.Turn.{Near}
 use Rattle.walk.specs.Turn.{walkOf, beginOf}
 use Rattle.walk.specs.declared.Begun.{Begun}
 use Rattle.walk.specs.declared.Walked.{Walked}

@@ -12,12 +12,12 @@ use Rattle.words.specs.declared.Refusal.{Refusal}
 use Rattle.plan.specs.Plan.{image, ahead, spotOf, codesOf, runCounts, runLengths, Small}
 use Rattle.plan.specs.declared.Plan.{Plan}
 use Rattle.plan.specs.declared.Spot.{Spot}
-use Rattle.checks.specs.Tests.{andThen}
+use Rattle.verdicts.specs.Tests.{andThen}
 use Rattle.bodies.specs.Bodies.{bodyOf}
-use Rattle.checks.specs.declared.Verdict.{Verdict}
-use Rattle.checks.specs.declared.Verdict.the-variants.{Fine, Fault}
+use Rattle.verdicts.specs.declared.Verdict.{Verdict}
+use Rattle.verdicts.specs.declared.Verdict.the-variants.{Fine, Fault}
 use Rattle.walk.specs.Rule.{fresh}
-use Rattle.turns.specs.Turn.{headerOf}
+use Rattle.headers.specs.Header.{headerOf}
 use Rattle.walk.specs.Turn.{walkOf}
 use Rattle.turns.specs.declared.Stop.{Stop}
 use Rattle.turns.specs.declared.Stop.the-variants.{Wait as Wait′, Pause, Complete, Refused as Refused′}

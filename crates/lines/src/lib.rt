@@ -1,10 +1,10 @@
 // What the page shows of an image that is held from byte 0 (document 01, "Lines, rows, sets"): the data
 // pixels of one line as a part of the caller's bytes. Earlier lines are not read: a line's place follows
 // from the plan.
-use checks::Verdict;
 use plan::Plan;
 use plan::Spot;
 use turns::Stop;
+use verdicts::Verdict;
 use walk::State;
 use words::Refusal;
 ghost use mathlib.Core.Path.{_≡_};
@@ -37,7 +37,7 @@ fn found(p: Plan, k: u64, s: Spot, r: &[u8]) -> Verdict
     requires { ⌜ k ≤ 999999 ⌝ }
     ensures { λ v. ⌜ v ≡ foundIn p k s (now (r .entry)) ⌝ }
 {
-    let h = turns::header(k + 1, plan::codes_of(plan::IMAGE, s.run), s.length, r);
+    let h = headers::header(k + 1, plan::codes_of(plan::IMAGE, s.run), s.length, r);
     let Verdict::Fine = h else {
         return h;
     };

@@ -10,14 +10,15 @@ use Rattle.decimal.specs.Scan.{written, decimalOf, numberOf, mantissaOf, expone
 use Rattle.fields.specs.Field.{fieldAt}
 use Rattle.plan.specs.Tables.{slotOf, otherCodes}
 use Rattle.plan.specs.Plan.{totalOf, sumOf, runCounts, runLengths, firstLength, spotOf, spotFrom, codesOf, allZero, zeroPlan?, planGood, imageGood, volumeGood, leaderGood, slotsGood}
-use Rattle.checks.specs.Tests.{firstFault, textAt}
+use Rattle.verdicts.specs.Tests.{firstFault, textAt}
 use Rattle.checks.specs.Parts.{numbersTests}
 use Rattle.leader.specs.Leader.{leaderRecord}
 use Rattle.image.specs.Image.{imageRecord, imageTests, agreements, lineTests}
 use Rattle.bodies.specs.Bodies.{bodyOf, bodyTests, volumeRecord, trailerTests}
 use Rattle.bodies.specs.Named.{planOf}
 use Rattle.walk.specs.Rule.{fresh, goodState}
-use Rattle.turns.specs.Turn.{judgeOf, headerOf, headerTests, codesAre, endedOf, shortOf}
+use Rattle.headers.specs.Header.{headerOf, headerTests, codesAre}
+use Rattle.turns.specs.Turn.{judgeOf, endedOf, shortOf}
 use Rattle.walk.specs.Turn.{walkOf, nextOf, badStop}
 use Rattle.turns.specs.declared.Stop.{Stop}
 use Rattle.turns.specs.declared.Stop.the-variants.{Complete}

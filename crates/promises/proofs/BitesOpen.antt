@@ -9,9 +9,10 @@ use Rattle.words.specs.declared.Refusal.{Refusal}
 use Rattle.words.specs.Words.{twoAt, fourAt, placeOf}
 use Rattle.plan.specs.Tables.{otherCodes}
 use Rattle.plan.specs.Plan.{totalOf, sumOf, runCounts, runLengths, firstLength, spotOf, codesOf, allZero, zeroPlan?}
-use Rattle.checks.specs.Tests.{firstFault}
+use Rattle.verdicts.specs.Tests.{firstFault}
 use Rattle.walk.specs.Rule.{fresh, goodState}
-use Rattle.turns.specs.Turn.{judgeOf, headerOf, headerTests}
+use Rattle.headers.specs.Header.{headerOf, headerTests}
+use Rattle.turns.specs.Turn.{judgeOf}
 use Rattle.walk.specs.Turn.{walkOf}
 use Rattle.turns.specs.declared.Stop.the-variants.{Pause, Complete}
 use Rattle.promises.specs.Rules.{trailer}

@@ -13,13 +13,13 @@ use Rattle.words.specs.Words.{placeOf}
 use Rattle.decimal.specs.Text.{bytes}
 use Rattle.decimal.specs.declared.Form.the-variants.{I8, I16, F8d3, F16d7, E20d13}
 use Rattle.plan.specs.declared.Plan.{Plan}
-use Rattle.checks.specs.Tests.{firstFault, textAt}
+use Rattle.verdicts.specs.Tests.{firstFault, textAt}
 use Rattle.checks.specs.Parts.{at, numberAt, numbersTests}
 use Rattle.leader.specs.Leader.{fieldsTests, leaderRecord}
 use Rattle.image.specs.Image.{lineTests, imageRecord}
 use Rattle.bodies.specs.Bodies.{classText, pointerTests, bodyOf, bodyTests, volumeRecord}
-use Rattle.checks.specs.declared.Verdict.the-variants.{Fine}
-use Rattle.checks.proofs.Holding.{Holds, fine-holds, holds-fine, number-holds}
+use Rattle.verdicts.specs.declared.Verdict.the-variants.{Fine}
+use Rattle.verdicts.proofs.Holding.{Holds, fine-holds, holds-fine, number-holds}
 use Rattle.promises.specs.Rules.{Kind, volume, leader, image, trailer, kindNumber, Readable, Pointer, classOf, Summary, Map, Line, free}
 use Rattle.promises.proofs.Each.{each-at}
 use Rattle.promises.proofs.Parts.{text-is, number-is, readable-is}

@@ -17,11 +17,12 @@ use Rattle.plan.proofs.Bounds.{small-good, total-small}
 use Rattle.bodies.specs.Bodies.{bodyOf}
 use Rattle.leader.specs.Leader.{countsOf, lengthsOf}
 use Rattle.bodies.specs.Named.{planOf}
-use Rattle.checks.specs.declared.Verdict.the-variants.{Fine}
-use Rattle.checks.specs.declared.Verdict.{Verdict}
+use Rattle.verdicts.specs.declared.Verdict.the-variants.{Fine}
+use Rattle.verdicts.specs.declared.Verdict.{Verdict}
 use Rattle.bodies.proofs.First.{first-good}
 use Rattle.walk.specs.Rule.{fresh, goodState, nextSpot}
-use Rattle.turns.specs.Turn.{onFine, endedOf, headerOf}
+use Rattle.headers.specs.Header.{headerOf}
+use Rattle.turns.specs.Turn.{onFine, endedOf}
 use Rattle.walk.specs.Turn.{turnOf, nextOf, walkOf}
 use Rattle.walk.specs.declared.State.{State}
 use Rattle.turns.specs.declared.Stop.the-variants.{Complete}

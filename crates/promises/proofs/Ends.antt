@@ -16,11 +16,12 @@ use Rattle.plan.specs.declared.Codes.{Codes}
 use Rattle.plan.specs.declared.Plan.{Plan}
 use Rattle.bodies.specs.Named.{planOf}
 use Rattle.bodies.specs.Bodies.{bodyOf}
-use Rattle.checks.specs.declared.Verdict.{Verdict}
-use Rattle.checks.specs.declared.Verdict.the-variants.{Fine, Fault}
-use Rattle.checks.proofs.Holding.{fine-holds}
+use Rattle.verdicts.specs.declared.Verdict.{Verdict}
+use Rattle.verdicts.specs.declared.Verdict.the-variants.{Fine, Fault}
+use Rattle.verdicts.proofs.Holding.{fine-holds}
 use Rattle.walk.specs.Rule.{fresh, goodState, nextSpot, startOf}
-use Rattle.turns.specs.Turn.{refusedAt, endedOf, shortOf, onFine, headerTests, headerOf, judgeOf}
+use Rattle.headers.specs.Header.{headerTests, headerOf}
+use Rattle.turns.specs.Turn.{refusedAt, endedOf, shortOf, onFine, judgeOf}
 use Rattle.walk.specs.Turn.{turnOf, nextOf, stopped, more, badStop, walkOf}
 use Rattle.walk.specs.declared.State.{State}
 use Rattle.turns.specs.declared.Stop.{Stop}

@@ -16,9 +16,9 @@ use Rattle.plan.specs.declared.Plan.{Plan}
 use Rattle.checks.specs.Parts.{at, number, numbers, numberAt, rowTests, numbersTests}
 use Rattle.image.specs.Image.{agreements, imageRecord, imageTests}
 use Rattle.bodies.specs.Bodies.{bodyOf, bodyTests}
-use Rattle.checks.specs.declared.Verdict.the-variants.{Fine}
-use Rattle.checks.proofs.Holding.{Holds, fine-holds, holds-fine, holds-split, holds-join, each-holds, number-holds}
-use Rattle.turns.specs.Turn.{headerOf}
+use Rattle.verdicts.specs.declared.Verdict.the-variants.{Fine}
+use Rattle.verdicts.proofs.Holding.{Holds, fine-holds, holds-fine, holds-split, holds-join, each-holds, number-holds}
+use Rattle.headers.specs.Header.{headerOf}
 use Rattle.promises.specs.Rules.{ImageDescriptor}
 use Rattle.promises.proofs.Parts.{text-is, header-is, number-is}
 

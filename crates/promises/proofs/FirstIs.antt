@@ -9,8 +9,8 @@ use Rattle.plan.specs.Plan.{codesOf, firstLength}
 use Rattle.plan.specs.declared.Plan.{Plan}
 use Rattle.bodies.specs.Bodies.{bodyOf}
 use Rattle.bodies.specs.Named.{planOf}
-use Rattle.checks.specs.declared.Verdict.the-variants.{Fine}
-use Rattle.turns.specs.Turn.{headerOf}
+use Rattle.verdicts.specs.declared.Verdict.the-variants.{Fine}
+use Rattle.headers.specs.Header.{headerOf}
 use Rattle.promises.specs.Rules.{Kind, volume, leader, image, trailer, kindNumber, First, Due, promised, slotRecords, facilityRecords, slotDue, facilityDue, Summary, Map, free, pointer, textRecord, lineDue}
 use Rattle.promises.proofs.FirstVolume.{volume-is}
 use Rattle.promises.proofs.FirstLeader.{leader-is}

@@ -17,10 +17,10 @@ use Rattle.plan.specs.declared.Slot.{Slot}
 use Rattle.leader.specs.Leader.{pair, pairs, pairRow, pairTests, countAt, lengthAt, leaderRecord, leaderTests, countsOf, lengthsOf}
 use Rattle.bodies.specs.Bodies.{bodyOf, bodyTests}
 use Rattle.leader.specs.declared.Pair as declared
-use Rattle.checks.specs.declared.Verdict.the-variants.{Fine}
-use Rattle.checks.proofs.Holding.{Holds, fine-holds, holds-fine, each-holds, holds-each}
+use Rattle.verdicts.specs.declared.Verdict.the-variants.{Fine}
+use Rattle.verdicts.proofs.Holding.{Holds, fine-holds, holds-fine, each-holds, holds-each}
 use Rattle.leader.proofs.PairLaws.{length-none, count-in}
-use Rattle.turns.specs.Turn.{headerOf}
+use Rattle.headers.specs.Header.{headerOf}
 use Rattle.promises.specs.Rules.{Pair, NoSlot, Facility, LeaderDescriptor}
 use Rattle.promises.proofs.Each.{each-at}
 use Rattle.promises.proofs.Parts.{text-is, header-is, pair-is}

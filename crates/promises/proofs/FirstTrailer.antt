@@ -11,9 +11,9 @@ use Rattle.plan.specs.Tables.{otherCodes}
 use Rattle.plan.specs.Plan.{codesOf}
 use Rattle.plan.specs.declared.Plan.{Plan}
 use Rattle.bodies.specs.Bodies.{bodyOf, bodyTests, trailerTests}
-use Rattle.checks.specs.declared.Verdict.the-variants.{Fine}
-use Rattle.checks.proofs.Holding.{fine-holds, holds-fine}
-use Rattle.turns.specs.Turn.{headerOf}
+use Rattle.verdicts.specs.declared.Verdict.the-variants.{Fine}
+use Rattle.verdicts.proofs.Holding.{fine-holds, holds-fine}
+use Rattle.headers.specs.Header.{headerOf}
 use Rattle.promises.specs.Rules.{TrailerRecord}
 use Rattle.promises.proofs.Parts.{text-is, header-is}
 

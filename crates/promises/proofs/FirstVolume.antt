@@ -13,9 +13,9 @@ use Rattle.plan.specs.Plan.{codesOf}
 use Rattle.plan.specs.declared.Plan.{Plan}
 use Rattle.checks.specs.Parts.{numberAt, numbersTests}
 use Rattle.bodies.specs.Bodies.{bodyOf, bodyTests, volumeRecord, volumeTests}
-use Rattle.checks.specs.declared.Verdict.the-variants.{Fine}
-use Rattle.checks.proofs.Holding.{fine-holds, holds-fine}
-use Rattle.turns.specs.Turn.{headerOf}
+use Rattle.verdicts.specs.declared.Verdict.the-variants.{Fine}
+use Rattle.verdicts.proofs.Holding.{fine-holds, holds-fine}
+use Rattle.headers.specs.Header.{headerOf}
 use Rattle.promises.specs.Rules.{VolumeDescriptor}
 use Rattle.promises.proofs.Parts.{text-is, header-is, number-is}
 

@@ -17,8 +17,8 @@ use Rattle.plan.specs.declared.Spot.{Spot}
 use Rattle.plan.proofs.Bounds.{slot-each}
 use Rattle.plan.proofs.GoodLaws.{slot-full}
 use Rattle.bodies.specs.Bodies.{bodyOf}
-use Rattle.checks.specs.declared.Verdict.the-variants.{Fine}
-use Rattle.turns.specs.Turn.{headerOf}
+use Rattle.verdicts.specs.declared.Verdict.the-variants.{Fine}
+use Rattle.headers.specs.Header.{headerOf}
 use Rattle.promises.specs.Rules.{Kind, volume, leader, image, trailer, kindNumber, Due, Record, promised, textRecord}
 use Rattle.promises.proofs.Parts.{CodedBy, header-is}
 use Rattle.promises.proofs.BodyIs.{holdsOf, Long, body-is}

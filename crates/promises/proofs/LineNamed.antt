@@ -15,9 +15,9 @@ use Rattle.plan.specs.Plan.{image as image′, group, firstLength, spotOf, code
 use Rattle.plan.specs.declared.Plan.{Plan}
 use Rattle.plan.specs.declared.Spot.{Spot}
 use Rattle.bodies.specs.Bodies.{bodyOf}
-use Rattle.checks.specs.declared.Verdict.the-variants.{Fine}
+use Rattle.verdicts.specs.declared.Verdict.the-variants.{Fine}
 use Rattle.walk.specs.Rule.{fresh}
-use Rattle.turns.specs.Turn.{headerOf}
+use Rattle.headers.specs.Header.{headerOf}
 use Rattle.walk.specs.Turn.{nextOf}
 use Rattle.turns.specs.declared.Stop.{Stop}
 use Rattle.turns.specs.declared.Stop.the-variants.{Wait as Wait′, Pause, Complete, Refused as Refused′}

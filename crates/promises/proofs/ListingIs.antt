@@ -14,10 +14,11 @@ use Rattle.plan.specs.Plan.{image as image′, firstLength, totalOf, spotOf, co
 use Rattle.plan.specs.declared.Plan.{Plan}
 use Rattle.plan.specs.declared.Spot.{Spot}
 use Rattle.bodies.specs.Bodies.{bodyOf}
-use Rattle.checks.specs.declared.Verdict.{Verdict}
-use Rattle.checks.specs.declared.Verdict.the-variants.{Fine, Fault}
+use Rattle.verdicts.specs.declared.Verdict.{Verdict}
+use Rattle.verdicts.specs.declared.Verdict.the-variants.{Fine, Fault}
 use Rattle.walk.specs.Rule.{fresh, goodState, nextSpot}
-use Rattle.turns.specs.Turn.{refusedAt, endedOf, shortOf, onFine, headerOf, judgeOf}
+use Rattle.headers.specs.Header.{headerOf}
+use Rattle.turns.specs.Turn.{refusedAt, endedOf, shortOf, onFine, judgeOf}
 use Rattle.walk.specs.Turn.{turnOf, nextOf, walkOf, more}
 use Rattle.walk.specs.declared.State.{State}
 use Rattle.turns.specs.declared.Stop.{Stop}

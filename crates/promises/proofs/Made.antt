@@ -11,9 +11,9 @@ use Rattle.words.specs.Tests.{pick}
 use Rattle.words.specs.Words.{twoAt, fourAt}
 use Rattle.words.proofs.Laws.{both-make}
 use Rattle.plan.specs.declared.Codes.{Codes}
-use Rattle.checks.specs.declared.Verdict.the-variants.{Fine}
-use Rattle.checks.proofs.Holding.{holds-fine}
-use Rattle.turns.specs.Turn.{codesAre, headerTests, headerOf}
+use Rattle.verdicts.specs.declared.Verdict.the-variants.{Fine}
+use Rattle.verdicts.proofs.Holding.{holds-fine}
+use Rattle.headers.specs.Header.{codesAre, headerTests, headerOf}
 use Rattle.promises.specs.Witness.{four, made}
 use Rattle.promises.specs.Bytes.{Bytes}
 use Rattle.promises.specs.Rules.{concat}

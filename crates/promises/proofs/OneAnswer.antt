@@ -14,7 +14,7 @@ use Rattle.checks.specs.Parts.{numberAt}
 use Rattle.bodies.specs.Bodies.{bodyOf}
 use Rattle.bodies.specs.Named.{planOf}
 use Rattle.walk.specs.Rule.{fresh, startOf}
-use Rattle.turns.specs.Turn.{headerOf}
+use Rattle.headers.specs.Header.{headerOf}
 use Rattle.walk.specs.Turn.{walkOf, beginOf}
 use Rattle.walk.specs.declared.State.{State}
 use Rattle.plan.specs.declared.Codes.{Codes}

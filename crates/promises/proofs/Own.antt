@@ -18,7 +18,7 @@ use Rattle.plan.specs.declared.Spot.{Spot}
 use Rattle.plan.proofs.CodeLaws.{spot-first}
 use Rattle.bodies.specs.Bodies.{bodyOf}
 use Rattle.bodies.specs.Named.{planOf}
-use Rattle.checks.specs.declared.Verdict.{Verdict}
+use Rattle.verdicts.specs.declared.Verdict.{Verdict}
 use Rattle.walk.specs.Rule.{fresh, goodState, nextSpot}
 use Rattle.turns.specs.Turn.{onFine}
 use Rattle.walk.specs.Turn.{turnOf, nextOf, stopped, more, badStop, walkOf}

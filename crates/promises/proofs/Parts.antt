@@ -31,14 +31,14 @@ use Rattle.fields.proofs.Laws as laws
 use Rattle.plan.specs.Tables.{codes}
 use Rattle.plan.specs.declared.Codes.{Codes}
 use Rattle.plan.specs.declared.Slot.{Slot}
-use Rattle.checks.specs.Tests.{Test, textAt, readable?, numberTests, countTests, numberOf}
+use Rattle.verdicts.specs.Tests.{Test, textAt, readable?, numberTests, countTests, numberOf}
 use Rattle.checks.specs.Parts.{at, numberAt}
 use Rattle.leader.specs.Leader.{countAt, lengthAt, slotTests}
 use Rattle.leader.specs.declared.Pair as declared
-use Rattle.checks.specs.declared.Verdict.the-variants.{Fine}
-use Rattle.checks.proofs.Holding.{Holds, fine-holds, holds-fine, holds-split, holds-join}
+use Rattle.verdicts.specs.declared.Verdict.the-variants.{Fine}
+use Rattle.verdicts.proofs.Holding.{Holds, fine-holds, holds-fine, holds-split, holds-join}
 use Rattle.leader.proofs.PairLaws.{length-none, length-some}
-use Rattle.turns.specs.Turn.{codesAre, headerTests, headerOf}
+use Rattle.headers.specs.Header.{codesAre, headerTests, headerOf}
 use Rattle.promises.specs.Rules.{Says, Numbered, Readable, Coded, Is, Any, Record, Pair, blank, none, some}
 
 -- ---- texts

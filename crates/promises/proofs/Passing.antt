@@ -13,10 +13,11 @@ use Rattle.plan.specs.Plan.{totalOf, codesOf}
 use Rattle.plan.specs.declared.Plan.{Plan}
 use Rattle.plan.specs.declared.Spot.{Spot}
 use Rattle.bodies.specs.Bodies.{bodyOf}
-use Rattle.checks.specs.declared.Verdict.{Verdict}
-use Rattle.checks.specs.declared.Verdict.the-variants.{Fine, Fault}
+use Rattle.verdicts.specs.declared.Verdict.{Verdict}
+use Rattle.verdicts.specs.declared.Verdict.the-variants.{Fine, Fault}
 use Rattle.walk.specs.Rule.{goodState, nextSpot}
-use Rattle.turns.specs.Turn.{onFine, headerOf, judgeOf, endedOf, shortOf, refusedAt}
+use Rattle.headers.specs.Header.{headerOf}
+use Rattle.turns.specs.Turn.{onFine, judgeOf, endedOf, shortOf, refusedAt}
 use Rattle.walk.specs.Turn.{turnOf, nextOf, walkOf}
 use Rattle.walk.specs.declared.State.{State}
 use Rattle.turns.specs.declared.Stop.the-variants.{Wait, Complete}

@@ -19,10 +19,11 @@ use Rattle.plan.specs.declared.Plan.{Plan}
 use Rattle.plan.specs.declared.Spot.{Spot}
 use Rattle.bodies.specs.Bodies.{bodyOf}
 use Rattle.bodies.specs.Named.{planOf}
-use Rattle.checks.specs.declared.Verdict.{Verdict}
-use Rattle.checks.specs.declared.Verdict.the-variants.{Fine, Fault}
+use Rattle.verdicts.specs.declared.Verdict.{Verdict}
+use Rattle.verdicts.specs.declared.Verdict.the-variants.{Fine, Fault}
 use Rattle.walk.specs.Rule.{nextSpot}
-use Rattle.turns.specs.Turn.{refusedAt, onFine, codesAre, headerTests, headerOf, judgeOf, endedOf, shortOf}
+use Rattle.headers.specs.Header.{codesAre, headerTests, headerOf}
+use Rattle.turns.specs.Turn.{refusedAt, onFine, judgeOf, endedOf, shortOf}
 use Rattle.walk.specs.Turn.{turnOf, nextOf}
 use Rattle.walk.specs.declared.State.{State}
 use Rattle.turns.specs.declared.Stop.{Stop}

@@ -17,9 +17,10 @@ use Rattle.plan.specs.declared.Plan.{Plan}
 use Rattle.plan.specs.declared.Spot.{Spot}
 use Rattle.plan.proofs.CodeLaws.{spot-first}
 use Rattle.bodies.specs.Bodies.{bodyOf}
-use Rattle.checks.specs.declared.Verdict.{Verdict}
-use Rattle.checks.specs.declared.Verdict.the-variants.{Fine, Fault}
-use Rattle.turns.specs.Turn.{refusedAt, onFine, headerOf, endedOf, shortOf}
+use Rattle.verdicts.specs.declared.Verdict.{Verdict}
+use Rattle.verdicts.specs.declared.Verdict.the-variants.{Fine, Fault}
+use Rattle.headers.specs.Header.{headerOf}
+use Rattle.turns.specs.Turn.{refusedAt, onFine, endedOf, shortOf}
 use Rattle.turns.specs.declared.Stop.the-variants.{Wait, Complete, Refused}
 use Rattle.turns.specs.declared.Turn.the-variants.{Pass, Halt}
 use Rattle.turns.proofs.TurnLaws.{judge-ended, judge-twelve, judge-fault, judge-part, judge-body, not-fine}

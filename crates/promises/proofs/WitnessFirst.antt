@@ -10,13 +10,13 @@ use Rattle.fields.specs.Field.{fieldAt}
 use Rattle.plan.specs.Tables.{slotOf, otherCodes}
 use Rattle.plan.specs.Plan.{codesOf, firstLength}
 use Rattle.plan.specs.declared.Plan.{Plan}
-use Rattle.checks.specs.Tests.{firstFault, textAt}
+use Rattle.verdicts.specs.Tests.{firstFault, textAt}
 use Rattle.checks.specs.Parts.{numbersTests}
 use Rattle.leader.specs.Leader.{countAt, pairTests, leaderTests, leaderRecord}
 use Rattle.image.specs.Image.{agreements, imageTests, imageRecord}
 use Rattle.bodies.specs.Bodies.{volumeTests, trailerTests, volumeRecord, bodyTests, bodyOf}
-use Rattle.checks.specs.declared.Verdict.the-variants.{Fine}
-use Rattle.turns.specs.Turn.{headerOf}
+use Rattle.verdicts.specs.declared.Verdict.the-variants.{Fine}
+use Rattle.headers.specs.Header.{headerOf}
 use Rattle.promises.specs.Bytes.{Bytes}
 use Rattle.promises.specs.Rules.{concat}
 use Rattle.promises.specs.Witness.{four, made, blanks, volumeParts, leaderParts, imageParts, trailerParts, firstOf}

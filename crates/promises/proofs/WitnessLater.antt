@@ -23,14 +23,14 @@ use Rattle.plan.specs.declared.Slot.{Slot}
 use Rattle.plan.specs.declared.Spot.{Spot}
 use Rattle.plan.proofs.Bounds.{slot-each, small-good, total-small}
 use Rattle.plan.proofs.GoodLaws.{image-bounds}
-use Rattle.checks.specs.Tests.{firstFault, textAt, textTest}
+use Rattle.verdicts.specs.Tests.{firstFault, textAt, textTest}
 use Rattle.checks.specs.Parts.{numbersTests}
 use Rattle.leader.specs.Leader.{fieldsTests, leaderRecord}
 use Rattle.image.specs.Image.{lineTests, imageRecord}
 use Rattle.bodies.specs.Bodies.{classText, pointerTests, volumeRecord, bodyTests, bodyOf}
-use Rattle.checks.specs.declared.Verdict.the-variants.{Fine}
-use Rattle.checks.proofs.Holding.{Holds, holds-fine}
-use Rattle.turns.specs.Turn.{headerOf}
+use Rattle.verdicts.specs.declared.Verdict.the-variants.{Fine}
+use Rattle.verdicts.proofs.Holding.{Holds, holds-fine}
+use Rattle.headers.specs.Header.{headerOf}
 use Rattle.promises.specs.Bytes.{Bytes}
 use Rattle.promises.specs.Witness.{four, made, classOf, pointerParts, pointerRest, lineParts, lineRest}
 use Rattle.promises.proofs.Made.{four-sum, four-bytes, made-header, made-length, made-bytes, bytes-concat, bytes-same, Small}

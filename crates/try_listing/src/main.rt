@@ -4,7 +4,7 @@
 //   # TEXT           is printed as it stands
 //   c, p, b, q       change the bytes held (script::change)
 //   l LENGTH PIECE   the listing of the first LENGTH bytes, as if they arrived in pieces of at most PIECE
-//                    bytes; as in listing::list no more arrive than a turn wants, and once none are left
+//                    bytes; as in streams::list no more arrive than a turn wants, and once none are left
 //                    the turn is asked again, closed
 use listing::Say;
 use rows::Row;

@@ -25,16 +25,17 @@ use Rattle.plan.specs.Tables.{slotOf}
 use Rattle.plan.specs.Plan.{volume, leader, image}
 use Rattle.plan.specs.declared.Codes.{Codes}
 use Rattle.plan.specs.declared.Plan.{Plan}
-use Rattle.checks.specs.Tests.{Test, firstFault, each, unreadNumber, unreadPlace, countTests, numberTests}
+use Rattle.verdicts.specs.Tests.{Test, firstFault, each, unreadNumber, unreadPlace, countTests, numberTests}
 use Rattle.checks.specs.Parts.{at, numbers, rowTests, numbersTests}
 use Rattle.checks.specs.declared.Number.{Number}
-use Rattle.checks.specs.declared.Verdict.{Verdict}
-use Rattle.checks.specs.declared.Verdict.the-variants.{Fine, Fault}
+use Rattle.verdicts.specs.declared.Verdict.{Verdict}
+use Rattle.verdicts.specs.declared.Verdict.the-variants.{Fine, Fault}
 use Rattle.leader.specs.Leader.{pairs, pairTests, countAt, fieldsTests, listedTests, leaderTests, leaderRecord}
 use Rattle.leader.specs.declared.Pair.{Pair}
 use Rattle.image.specs.Image.{agreements, imageTests, lineTests, imageRecord}
 use Rattle.bodies.specs.Bodies.{volumeTests, pointerTests, trailerTests, volumeRecord, bodyTests, bodyOf}
-use Rattle.turns.specs.Turn.{Near, headerTests, headerOf}
+use Rattle.headers.specs.Header.{headerTests, headerOf}
+use Rattle.turns.specs.Turn.{Near}
 
 -- a fault's number and place, in a record r whose fields need so many bytes
 pub record Can (need : ℕ) (r : List ℕ) (number place : ℕ) : Type 0 where

@@ -1,3 +1,2 @@
 pub mod FaultLaws
 pub mod TurnLaws
-pub mod LineLaws

@@ -12,9 +12,10 @@ use Rattle.plan.specs.Plan.{totalOf, codesOf}
 use Rattle.plan.specs.declared.Plan.{Plan}
 use Rattle.plan.specs.declared.Spot.{Spot}
 use Rattle.bodies.specs.Bodies.{bodyOf}
-use Rattle.checks.specs.declared.Verdict.{Verdict}
-use Rattle.checks.specs.declared.Verdict.the-variants.{Fine, Fault}
-use Rattle.turns.specs.Turn.{onFine, headerOf, judgeOf, endedOf, shortOf}
+use Rattle.verdicts.specs.declared.Verdict.{Verdict}
+use Rattle.verdicts.specs.declared.Verdict.the-variants.{Fine, Fault}
+use Rattle.headers.specs.Header.{headerOf}
+use Rattle.turns.specs.Turn.{onFine, judgeOf, endedOf, shortOf}
 use Rattle.turns.specs.declared.Stop.{Stop}
 use Rattle.turns.specs.declared.Turn.the-variants.{Pass, Halt}
 

@@ -1,3 +1,2 @@
--- The specs of `turns`: steps 3 to 7 of a turn, and lines that hold what they must.
+-- The specs of `turns`: steps 3 to 7 of a turn.
 pub mod Turn
-pub mod Lines

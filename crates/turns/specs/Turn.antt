@@ -1,19 +1,17 @@
 -- One turn of the walk, steps 3 to 7 in document 01's order ("The record and the walk"). To be read beside that page. Assumes nothing.
 use Prim.Native.Nat.{ℕ, _+_, _-_, _≤_}
-use mathlib.Core.List.{List, [], _∷_}
-use mathlib.Core.Bool.{Bool, true}
+use mathlib.Core.List.{List}
+use mathlib.Core.Bool.{Bool}
 use lib.ListN.{length, take}
 use lib.Dec.{ltb, leb, eqb}
-use Rattle.words.specs.Tests.{pick, bothOf}
-use Rattle.words.specs.Words.{byteAt, fourAt}
+use Rattle.words.specs.Tests.{pick}
 use Rattle.plan.specs.Plan.{totalOf, codesOf}
-use Rattle.plan.specs.declared.Codes.{Codes}
 use Rattle.plan.specs.declared.Plan.{Plan}
 use Rattle.plan.specs.declared.Spot.{Spot}
-use Rattle.checks.specs.Tests.{Test, test, firstFault}
+use Rattle.headers.specs.Header.{headerOf}
 use Rattle.bodies.specs.Bodies.{bodyOf}
-use Rattle.checks.specs.declared.Verdict.{Verdict}
-use Rattle.checks.specs.declared.Verdict.the-variants.{Fine, Fault}
+use Rattle.verdicts.specs.declared.Verdict.{Verdict}
+use Rattle.verdicts.specs.declared.Verdict.the-variants.{Fine, Fault}
 use Rattle.turns.specs.declared.Stop.{Stop}
 use Rattle.turns.specs.declared.Stop.the-variants.{Wait, Complete, Refused}
 use Rattle.turns.specs.declared.Turn.{Turn}
@@ -31,19 +29,6 @@ endedOf ordinal start left closed = pick (eqb left 0) (pick closed Complete (Wai
 unfoldable pub shortOf : ℕ → ℕ → Bool → ℕ → Stop
 shortOf ordinal start closed missing = pick closed (refusedAt ordinal start 2 0) (Wait missing)
 
--- 5. header: sequence number (3), codes (4), length (5), each at its first byte
-unfoldable pub codesAre : List ℕ → Codes → Bool
-codesAre b c =
-    bothOf (bothOf (eqb (byteAt b 4) (c .one)) (eqb (byteAt b 5) (c .two)))
-    (bothOf (eqb (byteAt b 6) (c .three)) (pick (c .free) true (eqb (byteAt b 7) (c .four))))
-
-unfoldable pub headerTests : ℕ → Codes → ℕ → List ℕ → List Test
-headerTests ordinal c long b =
-    test (eqb (fourAt b 0) ordinal) 3 0 ∷ test (codesAre b c) 4 4 ∷ test (eqb (fourAt b 8) long) 5 8 ∷ []
-
-unfoldable pub headerOf : ℕ → Codes → ℕ → List ℕ → Verdict
-headerOf ordinal c long b = firstFault (headerTests ordinal c long b)
-
 -- what follows where nothing was found; else the fault is the refusal
 abbrev pub onFine : Verdict → ℕ → ℕ → Turn → Turn
 onFine Fine ordinal start t = t
@@ -54,7 +39,7 @@ abbrev pub Near : Verdict → Type 0
 Near Fine = Unit {0}
 Near (Fault n at) = at ≤ 10000
 
--- steps 3 to 7, for record k (from 0), which stands at that spot
+-- steps 3 to 7 (5, the header, is `headerOf`), for record k (from 0), which stands at that spot
 unfoldable pub judgeOf : ℕ → Plan → ℕ → Spot → List ℕ → Bool → Turn
 judgeOf kind p k s b closed =
     pick (leb (totalOf kind p) k) (Halt (endedOf (k + 1) (s .start) (length b) closed))

@@ -16,12 +16,12 @@ use Rattle.plan.proofs.CodeLaws.{line-spot, image-total}
 use Rattle.plan.proofs.GoodLaws.{image-agrees, image-within, image-bounds}
 use Rattle.image.specs.Image.{imageRecord}
 use Rattle.bodies.specs.Bodies.{bodyOf, bodyTests}
-use Rattle.checks.specs.declared.Verdict.{Verdict}
+use Rattle.verdicts.specs.declared.Verdict.{Verdict}
 use Rattle.turns.specs.Turn.{onFine, judgeOf}
-use Rattle.turns.specs.Lines.{linesFine}
+use Rattle.ahead.specs.Lines.{linesFine}
 use Rattle.turns.specs.declared.Turn.the-variants.{Pass}
 use Rattle.turns.proofs.TurnLaws.{judge-body}
-use Rattle.turns.proofs.LineLaws.{LineFine, LinesFine, head-fine, tail-fine, lines-few, lines-room, lines-are, rest, rest-is}
+use Rattle.ahead.proofs.LineLaws.{LineFine, LinesFine, head-fine, tail-fine, lines-few, lines-room, lines-are, rest, rest-is}
 use Rattle.walk.specs.Rule.{goodState}
 use Rattle.walk.specs.Turn.{turnOf, nextOf, more, walkOf}
 use Rattle.walk.specs.Ahead.{skipped, Ahead}

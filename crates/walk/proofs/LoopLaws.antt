@@ -11,7 +11,7 @@ use Rattle.turns.specs.declared.Stop.{Stop}
 use Rattle.turns.specs.declared.Stop.the-variants.{Pause}
 use Rattle.turns.specs.declared.Turn.the-variants.{Pass, Halt}
 use Rattle.turns.proofs.TurnLaws.{pass-long}
-use Rattle.turns.proofs.LineLaws.{rest, rest-is}
+use Rattle.ahead.proofs.LineLaws.{rest, rest-is}
 use Rattle.walk.specs.Rule.{goodState, nextSpot}
 use Rattle.walk.specs.Turn.{turnOf, nextOf, stopped, more, badStop, walkOf}
 use Rattle.walk.specs.declared.State.{State}

@@ -16,7 +16,7 @@ use Rattle.plan.specs.declared.Spot.{Spot}
 use Rattle.plan.proofs.CodeLaws as code-laws
 use Rattle.bodies.specs.Bodies.{bodyOf}
 use Rattle.bodies.specs.Named.{planOf}
-use Rattle.checks.specs.declared.Verdict.the-variants.{Fine}
+use Rattle.verdicts.specs.declared.Verdict.the-variants.{Fine}
 use Rattle.bodies.proofs.First.{first-good}
 use Rattle.turns.specs.declared.Turn.the-variants.{Pass}
 use Rattle.turns.proofs.TurnLaws.{pass-parts, pass-going, one-total}

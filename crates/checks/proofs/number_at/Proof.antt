@@ -2,7 +2,7 @@
 use mathlib.Core.Path.{ap, _∙_}
 use borrow.Author.Needs.{needs}
 use Rattle.checks.proofs.number_at.Statement.{statement}
-use Rattle.checks.specs.Tests.{numberOf}
+use Rattle.verdicts.specs.Tests.{numberOf}
 use Rattle.checks.proofs.number_at.Tie as tie
 
 field-requires : tie.Need-field-requires

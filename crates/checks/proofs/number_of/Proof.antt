@@ -2,11 +2,11 @@
 use mathlib.Core.Path.{_≡_, sym, ap, _∙_}
 use borrow.Author.Needs.{needs}
 use Rattle.checks.proofs.number_of.Statement.{statement}
-use Rattle.checks.specs.Tests.{numberOf, wholeOf}
+use Rattle.verdicts.specs.Tests.{numberOf, wholeOf}
 use mir.Syntax.{w64}
 use mir.Val.{toZ, ofZ}
 use Rattle.checks.proofs.number_of.Tie as tie
-use Rattle.checks.proofs.FieldLaws as laws
+use Rattle.verdicts.proofs.FieldLaws as laws
 
 enum-known-f : tie.Need-enum-known-f
 enum-known-f c = search needs

@@ -5,11 +5,11 @@ use native.Mathlib.Omega.{arith}
 use borrow.Author.Needs.{needs}
 use Rattle.checks.proofs.numbers.Statement.{statement}
 use Rattle.decimal.specs.declared.Form.the-variants.{I4}
-use Rattle.checks.specs.Tests.{firstFault}
+use Rattle.verdicts.specs.Tests.{firstFault}
 use Rattle.checks.specs.Parts.{number, numbers, numberRow, rowTests, numbersTests}
 use Rattle.checks.specs.declared.Number.{Number}
 use Rattle.checks.proofs.numbers.Tie as tie
-use Rattle.checks.proofs.TestLaws as laws
+use Rattle.verdicts.proofs.TestLaws as laws
 
 abbrev Inv-loop : tie.InvT-loop
 Inv-loop r from to i₀ i = (from ≤ i) × (i ≤ to) × (to ≤ 11) × (firstFault (numbersTests r from to) ≡ firstFault (numbersTests r i to))

@@ -3,7 +3,7 @@ use Rattle.words.proofs.Laws as numbers
 use Rattle.checks.proofs.whole.Statement.{statement}
 use mir.Facts.{toZ-ofZ}
 use Rattle.checks.proofs.whole.Tie as tie
-use Rattle.checks.proofs.FieldLaws as laws
+use Rattle.verdicts.proofs.FieldLaws as laws
 
 returns : tie.Need-returns
 returns c = laws.negative-of _ (c .before .args .v) (toZ-ofZ (c .before .fits .v)) (c .if1 .taken)

@@ -6,7 +6,7 @@ use borrow.Author.Needs.{needs}
 use Rattle.image.proofs.agree.Statement.{statement}
 use Rattle.decimal.specs.declared.Form.the-variants.{I8}
 use Rattle.checks.specs.Parts.{numberAt, numbersTests}
-use Rattle.checks.proofs.Holding.{fine-holds}
+use Rattle.verdicts.proofs.Holding.{fine-holds}
 use Rattle.image.proofs.agree.Tie as tie
 use Rattle.image.proofs.ImageLaws as laws
 

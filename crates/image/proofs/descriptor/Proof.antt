@@ -4,11 +4,11 @@ use mathlib.Core.List.{[], _∷_, _++_}
 use borrow.Author.Needs.{needs}
 use Rattle.image.proofs.descriptor.Statement.{statement}
 use Rattle.decimal.specs.Text.{bytes}
-use Rattle.checks.specs.Tests.{textTest}
+use Rattle.verdicts.specs.Tests.{textTest}
 use Rattle.checks.specs.Parts.{firstText, numbersTests}
 use Rattle.image.specs.Image.{agreements, imageTests}
 use Rattle.image.proofs.descriptor.Tie as tie
-use Rattle.checks.proofs.TestLaws as laws
+use Rattle.verdicts.proofs.TestLaws as laws
 
 first-text-requires : tie.Need-first-text-requires
 first-text-requires c κs = search needs

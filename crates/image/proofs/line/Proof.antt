@@ -3,10 +3,10 @@ use Prim.Native.Nat.{ℕ, _+_}
 use mathlib.Core.Path.{sym, ap, _∙_, _≡_}
 use borrow.Author.Needs.{needs}
 use Rattle.image.proofs.line.Statement.{statement}
-use Rattle.checks.specs.Tests.{firstFault}
+use Rattle.verdicts.specs.Tests.{firstFault}
 use Rattle.image.specs.Image.{lineTests}
 use Rattle.words.specs.Words.{placeOf, fourAt}
-use Rattle.checks.specs.declared.Verdict.the-variants.{Fault}
+use Rattle.verdicts.specs.declared.Verdict.the-variants.{Fault}
 use Rattle.image.proofs.line.Tie as tie
 use Rattle.image.proofs.ImageLaws as laws
 

@@ -3,11 +3,11 @@ use mathlib.Core.Path.{sym, _∙_}
 use mathlib.Core.List.{[], _∷_}
 use borrow.Author.Needs.{needs}
 use Rattle.leader.proofs.descriptor.Statement.{statement}
-use Rattle.checks.specs.Tests.{each}
+use Rattle.verdicts.specs.Tests.{each}
 use Rattle.checks.specs.Parts.{firstText}
 use Rattle.leader.specs.Leader.{pairs, pairTests, leaderTests}
 use Rattle.leader.proofs.descriptor.Tie as tie
-use Rattle.checks.proofs.TestLaws as laws
+use Rattle.verdicts.proofs.TestLaws as laws
 
 first-text-requires : tie.Need-first-text-requires
 first-text-requires c κs = search needs

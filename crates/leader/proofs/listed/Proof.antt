@@ -7,10 +7,10 @@ use Rattle.leader.proofs.listed.Statement.{statement}
 use Rattle.decimal.specs.declared.Form.the-variants.{I4}
 use Rattle.fields.specs.Listed.{row, table, listed}
 use Rattle.fields.specs.declared.Listed.{Listed}
-use Rattle.checks.specs.Tests.{firstFault}
+use Rattle.verdicts.specs.Tests.{firstFault}
 use Rattle.leader.specs.Leader.{listedTests, fieldsTests}
 use Rattle.leader.proofs.listed.Tie as tie
-use Rattle.checks.proofs.TestLaws as laws
+use Rattle.verdicts.proofs.TestLaws as laws
 
 abbrev Inv-loop : tie.InvT-loop
 Inv-loop r from to i₀ i = (from ≤ i) × (i ≤ to) × (to ≤ 13) × (firstFault (fieldsTests r from to) ≡ firstFault (fieldsTests r i to))

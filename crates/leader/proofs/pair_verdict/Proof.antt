@@ -2,7 +2,7 @@
 use mathlib.Core.Path.{_≡_, sym, _∙_}
 use borrow.Author.Needs.{needs}
 use Rattle.leader.proofs.pair_verdict.Statement.{statement}
-use Rattle.checks.specs.Tests.{firstFault}
+use Rattle.verdicts.specs.Tests.{firstFault}
 use Rattle.leader.proofs.pair_verdict.Tie as tie
 use Rattle.leader.proofs.PairLaws as laws
 

@@ -6,12 +6,12 @@ use borrow.Author.Needs.{needs}
 use Rattle.leader.proofs.pairs_verdict.Statement.{statement}
 use lib.Seq.{slice}
 use Rattle.decimal.specs.declared.Form.the-variants.{I4}
-use Rattle.checks.specs.Tests.{firstFault, each}
+use Rattle.verdicts.specs.Tests.{firstFault, each}
 use Rattle.leader.specs.Leader.{pair, pairs, pairRow, pairTests}
 use Rattle.leader.specs.declared.Pair.{Pair}
 use Rattle.leader.proofs.TableLaws.{pair-bound}
 use Rattle.leader.proofs.pairs_verdict.Tie as tie
-use Rattle.checks.proofs.TestLaws as laws
+use Rattle.verdicts.proofs.TestLaws as laws
 
 abbrev Inv-loop : tie.InvT-loop
 Inv-loop r i₀ i = (i ≤ 26) × (firstFault (each (pairTests r) pairs) ≡ firstFault (each (pairTests r) (slice i 26 pairs)))

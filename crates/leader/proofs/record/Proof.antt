@@ -3,7 +3,7 @@ use mathlib.Core.Path.{_∙_}
 use borrow.Author.Needs.{needs}
 use borrow.Author.Tests.{eq-eqb, ne-eqb}
 use Rattle.leader.proofs.record.Statement.{statement}
-use Rattle.checks.specs.Tests.{firstFault}
+use Rattle.verdicts.specs.Tests.{firstFault}
 use Rattle.leader.specs.Leader.{leaderRecord}
 use Rattle.leader.proofs.record.Tie as tie
 

@@ -3,11 +3,11 @@ use Prim.Native.Nat.{_+_}
 use mathlib.Core.Path.{_≡_, sym, ap, _∙_, subst}
 use Rattle.plan.specs.Plan.{image}
 use Rattle.plan.specs.declared.Codes.{Codes}
-use Rattle.checks.specs.Tests.{andThen}
+use Rattle.verdicts.specs.Tests.{andThen}
 use Rattle.bodies.specs.Bodies.{bodyOf}
-use Rattle.checks.specs.declared.Verdict.{Verdict}
-use Rattle.checks.specs.declared.Verdict.the-variants.{Fine}
-use Rattle.turns.specs.Turn.{headerOf}
+use Rattle.verdicts.specs.declared.Verdict.{Verdict}
+use Rattle.verdicts.specs.declared.Verdict.the-variants.{Fine}
+use Rattle.headers.specs.Header.{headerOf}
 use Rattle.turns.proofs.TurnLaws as turn-laws
 use Rattle.lines.specs.View.{foundIn}
 use Rattle.lines.proofs.ViewLaws as laws

@@ -3,7 +3,7 @@ use Prim.Native.Nat.{ℕ, _+_}
 use mathlib.Core.List.{List}
 use native.Mathlib.Omega.{arith}
 use Rattle.plan.specs.Plan.{group}
-use Rattle.checks.specs.declared.Verdict.{Verdict}
+use Rattle.verdicts.specs.declared.Verdict.{Verdict}
 use Rattle.turns.specs.Turn.{Near}
 use Rattle.lines.specs.View.{foundIn, onVerdict, shownOf, recordAt}
 use mathlib.Core.Path.{sym, ap, _∙_, subst}

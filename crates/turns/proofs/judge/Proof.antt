@@ -7,8 +7,9 @@ use lib.ListN.{length}
 use Rattle.turns.proofs.judge.Statement.{statement}
 use lib.Seq.{length-take-le}
 use Rattle.plan.specs.declared.Codes.{Codes}
-use Rattle.checks.specs.declared.Verdict.{Verdict}
-use Rattle.turns.specs.Turn.{Near, onFine, headerOf}
+use Rattle.verdicts.specs.declared.Verdict.{Verdict}
+use Rattle.headers.specs.Header.{headerOf}
+use Rattle.turns.specs.Turn.{Near, onFine}
 use Rattle.turns.specs.declared.Turn.the-variants.{Pass, Halt}
 use Rattle.turns.proofs.FaultLaws.{body-near, header-near}
 use Rattle.turns.proofs.judge.Tie as tie

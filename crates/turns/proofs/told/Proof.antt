@@ -3,7 +3,7 @@ use mathlib.Core.Path.{sym, ap, _∙_, subst}
 use borrow.Author.Needs.{needs}
 use Rattle.turns.proofs.told.Statement.{statement}
 use Rattle.turns.specs.declared.Turn.the-variants.{Pass, Halt}
-use Rattle.checks.specs.declared.Verdict.{Verdict}
+use Rattle.verdicts.specs.declared.Verdict.{Verdict}
 use Rattle.turns.specs.Turn.{onFine, Near}
 use Rattle.turns.proofs.told.Tie as tie
 

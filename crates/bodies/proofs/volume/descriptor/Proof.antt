@@ -6,7 +6,7 @@ use Rattle.bodies.proofs.volume.descriptor.Statement.{statement}
 use Rattle.checks.specs.Parts.{firstText, numbersTests}
 use Rattle.bodies.specs.Bodies.{volumeTests}
 use Rattle.bodies.proofs.volume.descriptor.Tie as tie
-use Rattle.checks.proofs.TestLaws as laws
+use Rattle.verdicts.proofs.TestLaws as laws
 
 first-text-requires : tie.Need-first-text-requires
 first-text-requires c κs = search needs

@@ -3,11 +3,11 @@ use mathlib.Core.Path.{sym, _∙_}
 use mathlib.Core.List.{[], _∷_}
 use borrow.Author.Needs.{needs}
 use Rattle.bodies.proofs.volume.pointer.Statement.{statement}
-use Rattle.checks.specs.Tests.{textTest}
+use Rattle.verdicts.specs.Tests.{textTest}
 use Rattle.checks.specs.Parts.{numbersTests}
 use Rattle.bodies.specs.Bodies.{classText, pointerTests}
 use Rattle.bodies.proofs.volume.pointer.Tie as tie
-use Rattle.checks.proofs.TestLaws as laws
+use Rattle.verdicts.proofs.TestLaws as laws
 
 class-requires : tie.Need-class-requires
 class-requires c κs = search needs

@@ -3,7 +3,7 @@ use mathlib.Core.Path.{_∙_}
 use borrow.Author.Needs.{needs}
 use borrow.Author.Tests.{eq-eqb, ne-eqb}
 use Rattle.bodies.proofs.volume.record.Statement.{statement}
-use Rattle.checks.specs.Tests.{firstFault}
+use Rattle.verdicts.specs.Tests.{firstFault}
 use Rattle.bodies.specs.Bodies.{volumeRecord}
 use Rattle.bodies.proofs.volume.record.Tie as tie
 

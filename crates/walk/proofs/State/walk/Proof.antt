@@ -1,6 +1,6 @@
 -- What is left of the walk from the state reached, behind the records passed, is the whole walk: the loop's invariant. A bad state is answered before the loop, a passed record leaves a good one, and lines that pass one after the other are as many turns.
 use Rattle.walk.specs.declared.State.{State}
-use Rattle.turns.proofs.LineLaws.{rest, rest-room}
+use Rattle.ahead.proofs.LineLaws.{rest, rest-room}
 use Rattle.turns.proofs.TurnLaws.{pass-long}
 use Rattle.walk.proofs.AheadLaws.{turn-ahead}
 use Rattle.walk.proofs.LoopLaws as laws

@@ -1,0 +1,55 @@
+-- Each test that fails answers no; behind them stand those of the header and of the line.
+use Rattle.headers.specs.Header.{headerTests}
+use Rattle.verdicts.specs.Tests.{allHold}
+use Rattle.plan.specs.declared.Codes.{Codes}
+use Rattle.words.specs.Tests.{bothOf}
+use Prim.Native.Nat.{_+_}
+use lib.Seq.{length-take-le}
+use native.Mathlib.Omega.{arith}
+use mathlib.Core.Path.{sym, ap, ap₂, _∙_}
+use borrow.Author.Needs.{needs}
+use Rattle.ahead.proofs.LineLaws as laws
+use Rattle.ahead.proofs.line_fine.Statement.{statement}
+use Rattle.ahead.proofs.line_fine.Tie as tie
+
+returns : tie.Need-returns
+returns c = laws.not-whole _ _ _ (c .before .before .args .b .now) (c .if1 .taken)
+
+returns-2 : tie.Need-returns-2
+returns-2 c = laws.no-room _ _ _ (c .before .before .before .args .b .now) (c .before .if1 .left) (c .if2 .taken)
+
+slice-aggregate-r : tie.Need-slice-aggregate-r
+slice-aggregate-r c = sym (length-take-le _ (c .before .before .before .before .args .b .now) (omega (arith, c .before .before .if1 .left)))
+
+add-header-there : tie.Need-add-header-there
+add-header-there c = search needs
+
+header-there-requires : tie.Need-header-there-requires
+header-there-requires c κs = search needs
+
+line-there-requires : tie.Need-line-there-requires
+line-there-requires c κs = omega (arith, length-take-le (c .before .before .before .before .before .args .l) (c .before .before .before .before .before .args .b .now) (omega (arith, c .before .before .before .if1 .left)), c .before .before .if2 .left)
+
+both-requires : tie.Need-both-requires
+both-requires c κs = search needs
+
+returns-3 : tie.Need-returns-3
+returns-3 c =
+    c .both .ensures
+    ∙ ap₂ bothOf
+    (c .before .before .header-there .ensures ∙ ap (λ (y : Codes). allHold (headerTests (c .before .before .before .before .before .before .before .args .k + 1) y (c .before .before .before .before .before .before .before .args .l) (c .before .before .before .before .before .before .before .args .b .now))) (c .before .before .before .before .before .before .before .pre .0))
+    (c .before .line-there .ensures)
+    ∙ laws.tested (c .before .before .before .before .before .before .before .args .w) (c .before .before .before .before .before .before .before .args .l) (c .before .before .before .before .before .before .before .args .k) (c .before .before .before .before .before .before .before .args .b .now) (c .before .before .before .before .before .if1 .left) (c .before .before .before .before .if2 .left)
+
+pub line-fine-spec : {M : Type 1} → statement M
+line-fine-spec =
+    tie.close
+    (tie.spec
+    returns
+    returns-2
+    slice-aggregate-r
+    add-header-there
+    header-there-requires
+    line-there-requires
+    both-requires
+    returns-3)

@@ -1,0 +1,2 @@
+-- The specs of `headers`: what a record's first twelve bytes must be.
+pub mod Header

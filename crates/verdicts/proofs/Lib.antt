@@ -1,0 +1,4 @@
+pub mod TestLaws
+pub mod FieldLaws
+pub mod TextLaws
+pub mod Holding
