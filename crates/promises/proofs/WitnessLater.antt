@@ -172,16 +172,17 @@ module _ (p : Plan) (good : planGood 2 p ≡ true) where
       (sym (ne-eqb (getD (p .counts) j 0) 0 (λ z. omega arith)))
       ∙ both-r (withinOf (slotOf j .least) (getD (p .counts) j 0) (slotOf j .most)) _ (slot-good j h))
 
+  -- a slot whose records have one length has that one
+  slot-fixed : (i long : ℕ) → i < 17 → slotOf i .shortest ≡ long → slotOf i .longest ≡ long → (j : ℕ) → j < 17 → 1 ≤ getD (p .counts) j 0 → j ≡ i → getD (p .lengths) j 0 ≡ long
+  slot-fixed i long k a b j h m e = subst (λ (x : ℕ). 1 ≤ getD (p .counts) x 0 → getD (p .lengths) x 0 ≡ long) (sym e) (λ n. omega (arith, slot-long i k n .0, slot-long i k n .1, a, b)) m
+
   slot-one : (j : ℕ) → j < 17 → 1 ≤ getD (p .counts) j 0 → j ≡ 0 → getD (p .lengths) j 0 ≡ 4096
   unfolding slotOf
-  slot-one zero h m e = omega (arith, slot-long 0 h m .0, slot-long 0 h m .1)
-  slot-one (suc j) h m e = absurd (omega arith)
+  slot-one = slot-fixed 0 4096 (omega arith) refl refl
 
   slot-two : (j : ℕ) → j < 17 → 1 ≤ getD (p .counts) j 0 → j ≡ 1 → getD (p .lengths) j 0 ≡ 1620
   unfolding slotOf
-  slot-two zero h m e = absurd (omega arith)
-  slot-two (suc zero) h m e = omega (arith, slot-long 1 h m .0, slot-long 1 h m .1)
-  slot-two (suc (suc j)) h m e = absurd (omega arith)
+  slot-two = slot-fixed 1 1620 (omega arith) refl refl
 
   slot-codes : (j : ℕ) → j < 17 → Small (codesOf 2 (suc j))
   unfolding codesOf
