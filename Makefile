@@ -23,7 +23,7 @@ ceos:
 
 # the library through its C boundary against the oracle, as many cases as wanted: make differential CASES=1000000 SEED=7
 differential:
-	@python3 tests/differential/run.py --cases $(or $(CASES),200000) --seed $(or $(SEED),20260)
+	@python3 tests/boundary/differential/run.py --cases $(or $(CASES),200000) --seed $(or $(SEED),20260)
 
 # a fuzz run of the C boundary: make fuzz SECONDS=600
 fuzz:

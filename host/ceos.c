@@ -2,325 +2,163 @@
  * more: what is right or wrong about a file is the library's to say. `ceos --help` says how it is used;
  * `make ceos` builds it to target/host/ceos.
  *
- * ceos.c has the commands, held.c the files, say.c the words. A walk goes in batches of records: behind
- * each the memory that it took is given back, and the file is seen to be the one that was opened. */
-#define _DEFAULT_SOURCE
+ * This file finds the command that is asked for in the table (commands.def) and makes the help of it. Each
+ * command has a file of its own; walks.c is what they share of the walk, held.c has the files, row.c writes
+ * the rows, say.c has the words. */
+#include "command.h"
 #include "held.h"
 #include "say.h"
-#include "seobangyu.h"
 
-#include <errno.h>
-#include <inttypes.h>
-#include <setjmp.h>
-#include <signal.h>
 #include <stdio.h>
-#include <stdlib.h>
 #include <string.h>
 
-/* What was asked: the command's words behind its name, options taken out. */
-struct asked {
-  int count;
-  char **words;
-  bool open;
+/* The tables --------------------------------------------------------------------------------------- */
+
+enum { ANY = 1 << 20 }; /* any number of words */
+
+static const struct command {
+  int (*run)(const struct asked *);
+  const char *name, *words;
+  int least, most; /* words behind the name */
+  unsigned options;
+  const char *help, *rows;
+} COMMANDS[] = {
+#define COMMAND(name, ...) {run_##name, __VA_ARGS__},
+#include "commands.def"
+#undef COMMAND
 };
 
-/* The bytes of a batch: enough to be quick, little enough to be no matter. */
-static const uint64_t BATCH = 4u << 20;
-
-/* A file that shrinks takes its mapped bytes away, and reading them is a signal. It can only come while
- * the library reads, which holds nothing: so the jump out of it is safe. */
-static sigjmp_buf taken_away;
-static const char *reading;
-
-static void on_bus(int number) { siglongjmp(taken_away, number); }
-
-static void answered(uint64_t told) {
-  if (told != 1) fail(NULL, "the library did not answer");
-}
-
-/* The walk ----------------------------------------------------------------------------------------- */
-
-struct walk {
-  struct held file;
-  uint64_t state[SBG_STATE];
-  uint64_t answer[SBG_ANSWER];
-  uint64_t from;   /* where the last batch's first record starts */
-  uint64_t before; /* how many records had passed before it */
-  bool rows;       /* rows are said meanwhile */
+static const struct option {
+  const char *name;
+  unsigned option;
+  const char *help;
+} OPTIONS[] = {
+    {"--open", OPEN, "the files are still arriving: what is missing is waited for, and nothing is complete"},
 };
 
-static struct walk begin(uint64_t kind, const char *name, bool open, bool rows) {
-  struct walk walk = {.file = hold(name, open), .rows = rows};
-  reading = name;
-  answered(sbg_begin(kind, walk.state, SBG_STATE, walk.answer, SBG_ANSWER));
-  return walk;
-}
+enum { COMMAND_COUNT = sizeof COMMANDS / sizeof *COMMANDS, OPTION_COUNT = sizeof OPTIONS / sizeof *OPTIONS };
 
-/* An image's lines go by the batch; other files have at most 50 records. */
-static uint64_t budget(const struct walk *walk) {
-  uint64_t length = walk->state[SBG_L];
-  return length == 0 || length > BATCH ? 1 : BATCH / length;
-}
+static const char *command_name(size_t i) { return COMMANDS[i].name; }
+static const char *option_name(size_t i) { return i < OPTION_COUNT ? OPTIONS[i].name : "--help"; }
 
-/* Walks a batch further. True where it only paused: there is more to come. */
-static bool batch(struct walk *walk) {
-  const struct held *file = &walk->file;
-  walk->from = sbg_start(walk->state, SBG_STATE);
-  walk->before = walk->state[SBG_PASSED];
-  release(file, walk->from);
-  const uint8_t *bytes = file->size == 0 ? NULL : file->bytes + walk->from;
-  answered(sbg_walk(walk->state, SBG_STATE, bytes, file->size - walk->from, !file->open, budget(walk), walk->answer,
-                    SBG_ANSWER));
-  see_unchanged(file);
-  say_progress(file->name, sbg_start(walk->state, SBG_STATE), file->size, walk->rows);
-  return walk->answer[SBG_TAG] == SBG_PAUSE;
-}
+struct names {
+  char text[512];
+};
 
-/* The closing row of a walk, with the file's name ahead where it is one of a set, and its status. */
-static int closing(const struct walk *walk, bool of_set) {
-  uint64_t passed = walk->state[SBG_PASSED];
-  uint64_t start = sbg_start(walk->state, SBG_STATE);
-  see_after(&walk->file);
-  if (of_set) printf("%s: ", walk->file.name);
-  switch (walk->answer[SBG_TAG]) {
-    case SBG_COMPLETE:
-      printf("COMPLETE %" PRIu64 " RECORDS %" PRIu64 " BYTES\n", passed, start);
-      return ACCEPTED;
-    case SBG_WAIT:
-      printf("WAIT %" PRIu64 " BYTES RECORD %" PRIu64 " AT %" PRIu64 "\n", walk->answer[SBG_A], passed + 1, start);
-      return WAITING;
-    case SBG_REFUSED:
-      return say_refusal(walk->file.name, walk->answer);
-    default:
-      fail(walk->file.name, "the library's answer is not known here");
+/* So many names in a sentence, with `last` before the last one. */
+static struct names names(const char *(*name)(size_t), size_t count, const char *last) {
+  struct names all = {""};
+  size_t length = 0;
+  for (size_t i = 0; i < count && length < sizeof all.text; i++) {
+    const char *between = i == 0 ? "" : i + 1 < count ? ", " : last;
+    length += (size_t)snprintf(all.text + length, sizeof all.text - length, "%s%s", between, name(i));
   }
+  return all;
 }
 
-/* walk --------------------------------------------------------------------------------------------- */
+/* Help --------------------------------------------------------------------------------------------- */
 
-static uint64_t number_of(const char *word, const char *what) {
-  char *end = NULL;
-  errno = 0;
-  unsigned long long number = strtoull(word, &end, 10);
-  if (word[0] < '0' || word[0] > '9' || *end != '\0' || errno != 0) usage(what);
-  return number;
-}
+static const char ABOUT[] =
+    "NAME\n"
+    "  ceos - looks at the files of a CEOS SAR product (PALSAR; of JERS-1, by its own tables, no leader,\n"
+    "         image or trailer is accepted, only a volume directory can be)\n"
+    "\n";
 
-/* A number that is no kind is the library's to refuse. */
-static uint64_t kind_of(const char *word) {
-  static const char *const KINDS[] = {"", "volume", "leader", "image", "trailer"};
-  for (uint64_t kind = SBG_VOLUME; kind <= SBG_TRAILER; kind++)
-    if (strcmp(word, KINDS[kind]) == 0) return kind;
-  return number_of(word, "KIND is volume, leader, image or trailer, or 1 to 4");
-}
+static const char ANSWERS[] =
+    "OUTPUT\n"
+    "  Rows on standard output; the last one is the answer. Messages are on standard error.\n"
+    "    COMPLETE 3 RECORDS 1116 BYTES  the file is whole and meets the rules\n"
+    "    REFUSED 10 RECORD 3 AT 930     the first fault: its number, the record (from 1), the place (from\n"
+    "                                   0); docs/REFUSALS.md says what each number means\n"
+    "    WAIT 9 BYTES RECORD 3 AT 918   so many bytes are missing to the next part of that record, which\n"
+    "                                   starts there; what has come so far is good\n"
+    "    AGREES 4 FILES                 every file is whole, and the directory tells their record counts\n";
 
-static int walk_file(const struct asked *asked) {
-  struct walk walk = begin(kind_of(asked->words[0]), asked->words[1], asked->open, false);
-  if (walk.answer[SBG_TAG] == SBG_REFUSED) return say_refusal(walk.file.name, walk.answer);
-  while (batch(&walk)) {
+static const char STATUS[] =
+    "\n"
+    "EXIT STATUS\n"
+    "  0 accepted (a shown line too)  1 refused  2 wrong use, or an error of the system  3 wait\n"
+    "  A file that changes while it is read gives 2, and no answer; with --open it may grow.\n";
+
+static void say_synopsis(void) {
+  size_t widest = 0;
+  for (size_t i = 0; i < COMMAND_COUNT; i++) {
+    size_t width = strlen(COMMANDS[i].name) + 1 + strlen(COMMANDS[i].words);
+    if (width > widest) widest = width;
   }
-  return closing(&walk, false);
-}
-
-/* list --------------------------------------------------------------------------------------------- */
-
-/* A passed line that is not shown is no longer the one that passed. */
-static void say_row(const struct walk *walk, uint64_t line) {
-  uint64_t answer[SBG_ANSWER];
-  answered(sbg_line(walk->file.bytes, walk->file.size, line, answer, SBG_ANSWER));
-  if (answer[SBG_TAG] != SBG_SHOWN) fail(walk->file.name, "was written to while it was read");
-  uint64_t data = answer[SBG_B], left = answer[SBG_C];
-  printf("%" PRIu64 " %" PRIu64 " %" PRIu64 " %" PRIu64 "\n", line, left, data, walk->state[SBG_W] - left - data);
-}
-
-/* What the last batch passed: record 1 gives the first row, record k + 1 the row of line k. */
-static void say_rows(const struct walk *walk) {
-  for (uint64_t record = walk->before + 1; record <= walk->state[SBG_PASSED]; record++) {
-    if (record == 1)
-      printf("IMAGE %" PRIu64 " LINES %" PRIu64 " PIXELS\n", walk->state[SBG_N], walk->state[SBG_W]);
-    else
-      say_row(walk, record - 1);
+  printf("SYNOPSIS\n");
+  for (size_t i = 0; i < COMMAND_COUNT; i++) {
+    int room = (int)(widest - strlen(COMMANDS[i].name) - 1);
+    printf("  ceos %s %-*s %s\n", COMMANDS[i].name, room, COMMANDS[i].words, COMMANDS[i].help);
   }
+  printf("  ceos --help\n\n  KIND is volume, leader, image or trailer, or its number, 1 to 4.\n\n");
 }
 
-static int list(const struct asked *asked) {
-  struct walk walk = begin(SBG_IMAGE, asked->words[0], asked->open, true);
-  bool more = true;
-  while (more) {
-    more = batch(&walk);
-    say_rows(&walk);
-    if (ferror(stdout)) see_written(); /* nobody reads the rest */
+static void say_options(void) {
+  printf("OPTIONS\n");
+  for (size_t i = 0; i < OPTION_COUNT; i++) printf("  %-6s  %s\n", OPTIONS[i].name, OPTIONS[i].help);
+  printf("  %-6s  %s\n\n", "--", "what follows is no option");
+}
+
+/* What the command's rows say; its further lines are set in. */
+static void say_rows(const struct command *command) {
+  if (command->rows[0] == '\0') return;
+  printf("  %s: ", command->name);
+  for (const char *at = command->rows; *at != '\0'; at++) {
+    (void)putchar(*at);
+    if (*at == '\n') printf("    ");
   }
-  see_unchanged(&walk.file);
-  return closing(&walk, false);
-}
-
-/* line --------------------------------------------------------------------------------------------- */
-
-/* The image's pixels a line, w, which the first record names. */
-static uint64_t pixels(const struct held *file) {
-  uint64_t state[SBG_STATE], answer[SBG_ANSWER];
-  answered(sbg_begin(SBG_IMAGE, state, SBG_STATE, answer, SBG_ANSWER));
-  answered(sbg_walk(state, SBG_STATE, file->bytes, file->size, 0, 1, answer, SBG_ANSWER));
-  return state[SBG_W];
-}
-
-static void say_samples(const uint16_t *row, uint64_t samples) {
-  for (uint64_t j = 0; j < samples; j++) printf("%u%c", (unsigned)row[j], j % 10 == 9 || j + 1 == samples ? '\n' : ' ');
-}
-
-static int say_line(const struct held *file, uint64_t line, const uint64_t *shown) {
-  uint64_t samples = shown[SBG_B], answer[SBG_ANSWER];
-  uint16_t *row = NULL;
-  if (samples > 0) {
-    row = calloc((size_t)samples, sizeof *row);
-    if (row == NULL) fail(file->name, "there is no memory for %" PRIu64 " samples", samples);
-  }
-  answered(sbg_row(file->bytes, file->size, line, row, (size_t)samples, answer, SBG_ANSWER));
-  uint64_t right = pixels(file) - shown[SBG_C] - samples;
-  see_unchanged(file);
-  if (answer[SBG_TAG] != SBG_COPIED) fail(file->name, "was written to while it was read");
-  printf("LINE %" PRIu64 " START %" PRIu64 " DATA %" PRIu64 " LEFT %" PRIu64 " RIGHT %" PRIu64 "\n", line, shown[SBG_A],
-         samples, shown[SBG_C], right);
-  say_samples(row, samples);
-  free(row);
-  return ACCEPTED;
-}
-
-/* A line is asked of what has come, so the file is held as an open one. */
-static int line(const struct asked *asked) {
-  uint64_t number = number_of(asked->words[1], "K is a number, 1 for the first line");
-  struct held file = hold(asked->words[0], true);
-  reading = file.name;
-  uint64_t answer[SBG_ANSWER];
-  answered(sbg_line(file.bytes, file.size, number, answer, SBG_ANSWER));
-  see_unchanged(&file);
-  see_after(&file);
-  if (answer[SBG_TAG] == SBG_REFUSED) return say_refusal(file.name, answer);
-  if (answer[SBG_TAG] == SBG_SHOWN) return say_line(&file, number, answer);
-  printf("WAIT %" PRIu64 " BYTES\n", answer[SBG_A]);
-  return WAITING;
-}
-
-/* fields ------------------------------------------------------------------------------------------- */
-
-/* Document 01, "Listed fields": written places by number; 5 to 10 have an exponent. 1 to 10 are of the
- * summary record, which is record 2, and 11 to 13 of the map record, which is record 3 if there is one. */
-enum { FIRST_EXPONENT = 5, LAST_SUMMARY = 10, LAST_FIELD = 13, SUMMARY = 2, MAP = 3 };
-static const int PLACES[] = {0, 3, 7, 7, 7, 13, 13, 13, 13, 13, 13, 0, 0, 7};
-
-/* A field of the record that passed last. The walk has seen that it is a value or blank. */
-static void say_field(const struct walk *walk, uint64_t number) {
-  uint64_t answer[SBG_ANSWER];
-  int64_t value[SBG_VALUE];
-  uint64_t end = sbg_start(walk->state, SBG_STATE);
-  answered(sbg_field(walk->file.bytes + walk->from, (size_t)(end - walk->from), number, value, SBG_VALUE, answer,
-                     SBG_ANSWER));
-  printf("%" PRIu64 " ", number);
-  if (answer[SBG_TAG] == SBG_IS_VALUE)
-    say_decimal(value, PLACES[number], number >= FIRST_EXPONENT && number <= LAST_SUMMARY);
-  else if (answer[SBG_TAG] == SBG_BLANK)
-    printf("BLANK");
-  else
-    fail(walk->file.name, "was written to while it was read");
   printf("\n");
 }
 
-/* The fields of the record that the last batch passed, if it has any. */
-static void say_fields(const struct walk *walk) {
-  uint64_t passed = walk->state[SBG_PASSED];
-  bool map = walk->state[SBG_PAIRS + 2] == 1; /* slot 2's count */
-  if (passed == walk->before) return;
-  if (passed == SUMMARY)
-    for (uint64_t number = 1; number <= LAST_SUMMARY; number++) say_field(walk, number);
-  for (uint64_t number = LAST_SUMMARY + 1; number <= LAST_FIELD; number++) {
-    if (passed == SUMMARY && !map) printf("%" PRIu64 " ABSENT\n", number);
-    if (passed == MAP && map) say_field(walk, number);
-  }
-}
-
-static int fields(const struct asked *asked) {
-  struct walk walk = begin(SBG_LEADER, asked->words[0], asked->open, true);
-  bool more = true;
-  while (more) {
-    more = batch(&walk);
-    say_fields(&walk);
-  }
-  see_unchanged(&walk.file);
-  return closing(&walk, false);
-}
-
-/* set ---------------------------------------------------------------------------------------------- */
-
-/* Of two statuses the one that the set has: a refusal, then a wait. */
-static int worse(int one, int other) {
-  if (one == REFUSED || other == REFUSED) return REFUSED;
-  return one == ACCEPTED ? other : one;
-}
-
-/* Walks a file of the set, says its row, and hands back how many records it has. */
-static int count_records(struct walk *walk, uint64_t *count) {
-  while (batch(walk)) {
-  }
-  *count = walk->state[SBG_PASSED];
-  return closing(walk, true);
-}
-
-static int say_set(const struct held *volume, const uint64_t *counts, size_t files) {
-  uint64_t answer[SBG_ANSWER];
-  reading = volume->name;
-  answered(sbg_set(volume->bytes, volume->size, counts, files, answer, SBG_ANSWER));
-  see_unchanged(volume);
-  if (answer[SBG_TAG] == SBG_REFUSED) return say_refusal(volume->name, answer);
-  if (answer[SBG_TAG] != SBG_AGREES) fail(volume->name, "the library's answer is not known here");
-  printf("AGREES %zu FILES\n", files);
-  return ACCEPTED;
-}
-
-/* The directory, then the files in its pointers' order: leader, images, trailer. */
-static int set(const struct asked *asked) {
-  int files = asked->count - 1;
-  uint64_t *counts = calloc((size_t)files, sizeof *counts);
-  if (counts == NULL) fail(NULL, "there is no memory for %d counts", files);
-  uint64_t unused;
-  struct walk volume = begin(SBG_VOLUME, asked->words[0], asked->open, false);
-  int status = count_records(&volume, &unused);
-  for (int i = 0; i < files; i++) {
-    uint64_t kind = i == 0 ? SBG_LEADER : i == files - 1 ? SBG_TRAILER : SBG_IMAGE;
-    struct walk walk = begin(kind, asked->words[i + 1], asked->open, false);
-    status = worse(status, count_records(&walk, &counts[i]));
-    let_go(&walk.file);
-  }
-  if (status == ACCEPTED) status = say_set(&volume.file, counts, (size_t)files);
-  free(counts);
-  return status;
+static void say_help(void) {
+  (void)fputs(ABOUT, stdout);
+  say_synopsis();
+  say_options();
+  (void)fputs(ANSWERS, stdout);
+  for (size_t i = 0; i < COMMAND_COUNT; i++) say_rows(&COMMANDS[i]);
+  (void)fputs(STATUS, stdout);
 }
 
 /* The command -------------------------------------------------------------------------------------- */
 
-static const struct command {
-  const char *name;
-  int least, most; /* words behind the name */
-  int (*run)(const struct asked *);
-  const char *form;
-} COMMANDS[] = {
-    {"walk", 2, 2, walk_file, "the use is: ceos walk KIND FILE"},
-    {"list", 1, 1, list, "the use is: ceos list IMG"},
-    {"line", 2, 2, line, "the use is: ceos line IMG K"},
-    {"fields", 1, 1, fields, "the use is: ceos fields LED"},
-    {"set", 3, 1 << 20, set, "the use is: ceos set VOL LED IMG.. TRL"},
-};
+/* How many of the words asked are the command's name; 0 where they are not. */
+static int named(const struct command *command, const struct asked *asked) {
+  const char *name = command->name;
+  for (int i = 0; i < asked->count; i++) {
+    size_t length = strcspn(name, " ");
+    if (strlen(asked->words[i]) != length || strncmp(asked->words[i], name, length) != 0) return 0;
+    if (name[length] == '\0') return i + 1;
+    name += length + 1;
+  }
+  return 0;
+}
+
+static int obey_command(const struct command *command, const struct asked *asked) {
+  for (size_t i = 0; i < OPTION_COUNT; i++)
+    if ((asked->options & ~command->options & OPTIONS[i].option) != 0)
+      usage("%s does not take %s", command->name, OPTIONS[i].name);
+  if (asked->count < command->least || asked->count > command->most)
+    usage("the use is: ceos %s %s", command->name, command->words);
+  return command->run(asked);
+}
 
 static int run(struct asked *asked) {
-  if (asked->count == 0) usage("name a command: walk, list, line, fields or set");
-  for (size_t i = 0; i < sizeof COMMANDS / sizeof *COMMANDS; i++) {
-    if (strcmp(asked->words[0], COMMANDS[i].name) != 0) continue;
-    asked->words++;
-    asked->count--;
-    if (asked->count < COMMANDS[i].least || asked->count > COMMANDS[i].most) usage(COMMANDS[i].form);
-    return COMMANDS[i].run(asked);
+  if (asked->count == 0) usage("name a command: %s", names(command_name, COMMAND_COUNT, " or ").text);
+  for (size_t i = 0; i < COMMAND_COUNT; i++) {
+    int taken = named(&COMMANDS[i], asked);
+    if (taken == 0) continue;
+    asked->words += taken;
+    asked->count -= taken;
+    return obey_command(&COMMANDS[i], asked);
   }
-  usage("there is no such command; they are walk, list, line, fields and set");
+  usage("there is no such command; they are %s", names(command_name, COMMAND_COUNT, " and ").text);
+}
+
+static unsigned option_of(const char *word) {
+  for (size_t i = 0; i < OPTION_COUNT; i++)
+    if (strcmp(word, OPTIONS[i].name) == 0) return OPTIONS[i].option;
+  usage("there is no such option; they are %s", names(option_name, OPTION_COUNT + 1, " and ").text);
 }
 
 /* Takes the options out of the words, wherever they stand. True if help is asked for. */
@@ -329,14 +167,12 @@ static bool take_options(struct asked *asked, int words, char **word) {
   for (int i = 0; i < words; i++) {
     if (!options || word[i][0] != '-')
       asked->words[asked->count++] = word[i];
-    else if (strcmp(word[i], "--open") == 0)
-      asked->open = true;
     else if (strcmp(word[i], "--help") == 0 || strcmp(word[i], "-h") == 0)
       return true;
     else if (strcmp(word[i], "--") == 0)
       options = false;
     else
-      usage("there is no such option; they are --open and --help");
+      asked->options |= option_of(word[i]);
   }
   return false;
 }
@@ -352,9 +188,4 @@ static int obey(int words, char **word) {
   return status;
 }
 
-int main(int argc, char **argv) {
-  struct sigaction action = {.sa_handler = on_bus};
-  (void)sigaction(SIGBUS, &action, NULL);
-  if (sigsetjmp(taken_away, 1) != 0) fail(reading, "shrank while it was read, or the disk failed");
-  return obey(argc > 0 ? argc - 1 : 0, argc > 0 ? argv + 1 : argv);
-}
+int main(int argc, char **argv) { return while_held(obey, argc > 0 ? argc - 1 : 0, argc > 0 ? argv + 1 : argv); }

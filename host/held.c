@@ -6,9 +6,28 @@
 #include <errno.h>
 #include <fcntl.h>
 #include <inttypes.h>
+#include <setjmp.h>
+#include <signal.h>
 #include <string.h>
 #include <sys/mman.h>
+#include <sys/stat.h>
 #include <unistd.h>
+
+/* A file that shrinks takes its mapped bytes away, and reading them is a signal. It can only come while
+ * the library reads, which holds nothing: so the jump out of it is safe. */
+static sigjmp_buf taken_away;
+static const char *reading;
+
+static void on_bus(int number) { siglongjmp(taken_away, number); }
+
+int while_held(int (*work)(int, char **), int words, char **word) {
+  struct sigaction action = {.sa_handler = on_bus};
+  (void)sigaction(SIGBUS, &action, NULL);
+  if (sigsetjmp(taken_away, 1) != 0) fail(reading, "shrank while it was read, or the disk failed");
+  return work(words, word);
+}
+
+void read_next(const struct held *file) { reading = file->name; }
 
 static struct stat status_of(const struct held *file) {
   struct stat now;
@@ -26,6 +45,7 @@ struct held hold(const char *name, bool open_file) {
   if (!S_ISREG(now.st_mode)) fail(name, "is no file on disk; an image on standard input is listed by ceoslist");
   file.size = (size_t)now.st_size;
   file.written = now.st_mtim;
+  read_next(&file);
   if (file.size == 0) return file; /* no bytes cannot be mapped, and need not be */
   void *bytes = mmap(NULL, file.size, PROT_READ, MAP_SHARED, file.descriptor, 0);
   if (bytes == MAP_FAILED) fail(name, "its %zu bytes cannot be mapped: %s", file.size, strerror(errno));

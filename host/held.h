@@ -5,7 +5,7 @@
 #include <stdbool.h>
 #include <stddef.h>
 #include <stdint.h>
-#include <sys/stat.h>
+#include <time.h>
 
 struct held {
   const char *name;
@@ -16,8 +16,16 @@ struct held {
   bool open; /* more bytes may come */
 };
 
-/* Maps the file. A file that cannot be held ends the program with a message and status 2. */
+/* Does the work, and hands back what it does. Where a held file's bytes are taken away while they are read,
+ * the program ends with a message that names the file, and status 2. */
+int while_held(int (*work)(int, char **), int words, char **word);
+
+/* Maps the file, which is then the one read next. A file that cannot be held ends the program with a message
+ * and status 2. */
 struct held hold(const char *name, bool open);
+
+/* Of several held files this is the one read next. */
+void read_next(const struct held *file);
 
 /* Ends the program with a message and status 2 if the bytes may not be those that the file had when it
  * was opened: it shrank, or, unless it is open, it grew or was written to. */

@@ -1,4 +1,5 @@
-/* Seobangyu: a reader of CEOS SAR products (PALSAR, JERS-1), from C.
+/* Seobangyu: a reader of CEOS SAR products, from C: PALSAR. Of JERS-1, by its own tables, no leader,
+ * image or trailer is accepted; only a volume directory can be (docs/SOURCES.md).
  *
  * Every function takes any bytes and any numbers and ends with an answer; nothing is allocated, kept
  * or printed, so any number of threads may call. What each answers is proved (docs/PROMISES.md).
@@ -33,7 +34,10 @@ extern "C" {
 
 /* A state: kind, records passed, pointers; count and length of slots 1, 2, 3, 4, 5, 7, then of the
  * eleven facility pairs, count and length in turn; n, L, w, d, s. A state may be kept, copied and
- * handed in again; any other 42 numbers are refused with 11. */
+ * handed in again; numbers that break the state rule are refused with 11, and those that keep it are
+ * taken, whoever made them. The rule: kind 1 to 4; where no record has passed, all behind these two
+ * numbers is 0; else it is what a first record of that kind can name, the rest 0, and no more records
+ * have passed than that plans. */
 enum {
   SBG_KIND = 0,
   SBG_PASSED = 1,

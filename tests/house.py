@@ -1,24 +1,31 @@
 #!/usr/bin/env python3
 """The house's own rules, one a call: house.py RULE.
 
-promises  every name that docs/PROMISES.md cites is defined there as public: `crates/..:name`, and must-fail edits
+promises  every name that docs/PROMISES.md cites is defined there as public: `crates/..:name`; must-fail edits that it cites are there, and all are cited
+list      its list of the must-fail edits is what scripts/edits makes of them
+names     every `crate::function` and every file that README.md, CONTRIBUTING.md and docs/ name is there (not LANDINGS.md, which tells of its time);
+          no two files of tests/ have one name
+map       CONTRIBUTING.md's map of the crates is what scripts/map makes of crates.txt and the crates' own openings
+floors    a crate needs only what stands above it in crates.txt, and none but a crate of theorems needs a crate of theorems
+needs     crates.txt says of each crate exactly what it needs (scripts/needs)
 openings  every proof file opens with a sentence that says what it shows
 requires  every public function with a `requires` is listed in docs/PROMISES.md with its callers
 edits     no must-fail edit was refused only because a proof file no longer fits the code
-lengths   functions of at most 40 lines, lines of at most 160 characters"""
+lengths   functions of at most 40 lines, lines of at most 160 characters
+refusals  docs/REFUSALS.md has a row for each number of include/refusals.def, which opens with its short words, and no other"""
 import re
+import subprocess
 import sys
 from pathlib import Path
 
+sys.dont_write_bytecode = True
 HOME = Path(__file__).resolve().parent.parent
+sys.path.insert(0, str(HOME / 'scripts'))
+import crates  # noqa: E402
+
 PROMISES = HOME / 'docs' / 'PROMISES.md'
 # a line that defines a public name; one that only uses it or speaks of it does not count
 DEFINES = r'^ *(?:(?:abbrev|unfoldable) )?pub (?:(?:data|record) )?'
-
-
-def crates() -> list[str]:
-    lines = (HOME / 'crates.txt').read_text().splitlines()
-    return [line.split(':')[0].strip() for line in lines if ':' in line and not line.lstrip().startswith('#')]
 
 
 def sources() -> list[Path]:
@@ -42,6 +49,63 @@ def promises() -> list[str]:
     print(f'{len(cited)} names and {len(edits)} edits cited')
     if not cited:
         faults.append('docs/PROMISES.md cites nothing')
+    return faults
+
+
+def names() -> list[str]:
+    faults, count = [], 0
+    pages = [HOME / 'README.md', HOME / 'CONTRIBUTING.md', *sorted((HOME / 'docs').glob('*.md'))]
+    for page in (page for page in pages if page.name != 'LANDINGS.md'):
+        text = page.read_text()
+        cited = {(crate, name) for crate, name in re.findall(r'`([a-z]\w*)::(?:\w+::)*(\w+)', text) if crate not in crates.KIT}
+        for crate, name in sorted(cited):
+            code = '\n'.join(crates.code(path) for path in crates.files(crate, 'src'))
+            if not re.search(rf'\b(?:fn|struct|enum) {name}\b', code):
+                faults.append(f'{page.name}: there is no {crate}::{name}')
+        paths = set(re.findall(r'`((?:crates|tests|scripts|docs|host|include|bench)/[\w./-]*)`', text))
+        faults += [f'{page.name}: there is no {path}' for path in sorted(paths) if 'NAME' not in path and not (HOME / path).exists()]
+        count += len(cited) + len(paths)
+    files = [path.name for path in (HOME / 'tests').rglob('*.*')]
+    faults += [f'tests/: {files.count(name)} files are {name}' for name in sorted(set(files)) if files.count(name) > 1]
+    print(f'{count} names')
+    return faults
+
+
+def made(script: str) -> list[str]:
+    """What a script of the house finds to be out of date."""
+    done = subprocess.run([HOME / 'scripts' / script, '--check'], capture_output=True, text=True)
+    said = (done.stdout + done.stderr).splitlines()
+    return said or [f'scripts/{script} failed'] if done.returncode else []
+
+
+def list_() -> list[str]:
+    return made('edits')
+
+
+def map_() -> list[str]:
+    return made('map')
+
+
+def needs() -> list[str]:
+    return made('needs')
+
+
+def theorems_only(crate: str) -> bool:
+    """Whether a crate has no function of its own but the one that says so."""
+    return [name for path in crates.files(crate, 'src') for name, _, _, _ in functions(path)] == ['theorems_only']
+
+
+def floors() -> list[str]:
+    faults, above = [], set(crates.KIT)
+    listed = crates.needs()
+    theorems = {crate for crate in listed if theorems_only(crate)}
+    for crate, needed in listed.items():
+        faults += [f'{crate} needs {name}, which stands below it in crates.txt' for name in needed if name not in above]
+        faults += [f'{crate} needs {name}, which has theorems only' for name in needed if name in theorems and crate not in theorems]
+        if (crate in theorems) != crates.opening(crate).startswith('Theorems only'):
+            faults.append(f'{crate}: its opening says "Theorems only" and it has functions, or it has none and does not say so')
+        above.add(crate)
+    print(f'{len(listed)} crates, {len(theorems)} of theorems only')
     return faults
 
 
@@ -105,15 +169,32 @@ def lengths() -> list[str]:
             count += 1
             if size > 40:
                 faults.append(f'{path.relative_to(HOME)}: {name} has {size} lines')
+    texts = sources() + sorted((HOME / 'crates').glob('*/specs/**/*.antt')) + sorted((HOME / 'crates').glob('*/proofs/**/*.antt'))
+    for path in texts:
         for i, line in enumerate(path.read_text().splitlines(), 1):
-            if len(line) > 160:
+            # a path into what is known at a place of the code cannot be broken
+            if len(line) > 160 and not re.fullmatch(r' *let \w+ = c( \.before)+ [^ ]* in', line):
                 faults.append(f'{path.relative_to(HOME)}:{i}: {len(line)} characters')
-    print(f'{count} functions')
+    print(f'{count} functions, {len(texts)} files')
+    return faults
+
+
+def refusals() -> list[str]:
+    text = (HOME / 'include' / 'refusals.def').read_text()
+    defined = re.findall(r'^REFUSAL\((\d+), "(.*)"\)$', text, re.M)
+    rows = re.findall(r'^\| (\d+) \| (.*)$', (HOME / 'docs' / 'REFUSALS.md').read_text(), re.M)
+    numbers, told = [number for number, _ in defined], dict(rows)
+    faults = [f'{number}: its row does not open with **{words}**' for number, words in defined if not told.get(number, '').startswith(f'**{words}**')]
+    if numbers != [number for number, _ in rows] or numbers != sorted(set(numbers), key=int):
+        faults.append('the numbers of include/refusals.def and of the rows are not the same ones in rising order')
+    if not defined or len(defined) != len(re.findall(r'^\s*REFUSAL', text, re.M)):
+        faults.append('include/refusals.def has none, or one that is not written REFUSAL(number, "words") on a line')
+    print(f'{len(defined)} refusals')
     return faults
 
 
 def main() -> int:
-    rules = {f.__name__: f for f in (promises, openings, requires, edits, lengths)}
+    rules = {f.__name__.rstrip('_'): f for f in (promises, list_, names, map_, floors, needs, openings, requires, edits, lengths, refusals)}
     if len(sys.argv) != 2 or sys.argv[1] not in rules:
         print(__doc__)
         return 2

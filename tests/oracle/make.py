@@ -11,7 +11,7 @@ import random
 from dataclasses import dataclass, field
 from typing import Iterator, Optional, Sequence
 
-from ceos import (
+from reader import (
     BLANK,
     D,
     FACILITIES,

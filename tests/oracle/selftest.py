@@ -1,4 +1,5 @@
-"""Checks of the oracle against document 01 and the design's sections 3 and 4.
+"""Checks of the oracle against document 01 (docs/RULES.md), what was decided where that
+is silent (docs/DECISIONS.md), and the three demands (docs/PROMISES.md).
 
 Run: python3 selftest.py [seed].  Prints what was checked; the last line is the tally.
 """
@@ -11,9 +12,9 @@ import sys
 import time
 from typing import Callable, Iterator
 
-import ceos
+import reader
 import make
-from ceos import (
+from reader import (
     D, EVERY_RECORD, FACILITIES, IMAGE, KIND, L, LEADER, N, PASSED, POINTERS, S, SLOTS, STATE_NUMBERS, TRAILER, VOLUME, W,
     Answer, State, accepted, begin, decimal, field, field_at, good_state, line_view, listing, planned, refused, row_copy,
     set_check, start, walk,
@@ -135,7 +136,7 @@ def edges_and_slips(tally: Tally, rng: random.Random) -> None:
 
 
 def listing_examples(tally: Tally, rng: random.Random) -> None:
-    """The listing, verbatim, and what section 4 says of it."""
+    """The listing, verbatim, and what docs/DECISIONS.md says of it."""
     image = listed_image(rng)
     tally.equal(
         listing(image.data),
@@ -173,10 +174,10 @@ def second_reading(form: str, text: bytes) -> Answer:
         return ("bad",)
     if text.strip(b" ") == b"":
         return ("blank",)
-    if not ceos.well_written(form, text):
+    if not reader.well_written(form, text):
         return ("bad",)
     mantissa, exponent = (text[:-4], int(text[-3:])) if form[0] == "E" else (text, 0)
-    number = ceos.written_whole(mantissa.replace(b".", b""))
+    number = reader.written_whole(mantissa.replace(b".", b""))
     assert number is not None
     return ("value", number, exponent)
 
@@ -757,12 +758,12 @@ def lines_shown(tally: Tally, rng: random.Random) -> None:
 
 def _line_fits(data: bytes, k: int) -> bool:
     """By the records of acceptance: the first fits, and the one of line k is whole and fits."""
-    records = ceos.FILES[IMAGE](data)
+    records = reader.FILES[IMAGE](data)
     first = next(records)
-    if not ceos.record_fits(data[:720], 1, first) or k < 1:
+    if not reader.record_fits(data[:720], 1, first) or k < 1:
         return False
     line = next(itertools.islice(records, k - 1, None), None)
-    return line is not None and ceos.record_fits(data[720 + (k - 1) * line.length : 720 + k * line.length], k + 1, line)
+    return line is not None and reader.record_fits(data[720 + (k - 1) * line.length : 720 + k * line.length], k + 1, line)
 
 
 def sets(tally: Tally, rng: random.Random) -> None:

@@ -1,4 +1,5 @@
--- Lines that hold what they must, one after the other: the code's count of them by its loop's turns, and that each line counted is fine; for what the code hands on as `&bytes[at..]` is what lies behind `at`.
+-- Lines that hold what they must, one after the other: the code's count of them by its loop's turns, and that each line counted is fine; for what the code
+-- hands on as `&bytes[at..]` is what lies behind `at`.
 use Prim.Native.Nat.{ℕ, zero, suc, _+_, _-_, _*_, _≤_, _<_}
 use mathlib.Core.Path.{_≡_, refl, sym, ap, _∙_, subst}
 use mathlib.Core.List.{List}
@@ -13,7 +14,7 @@ use borrow.Author.Tests.{lt-ltb, le-ltb, ltb-true, ltb-false}
 use Rattle.words.specs.Tests.{bothOf}
 use Rattle.words.proofs.Laws.{cases, both-l, both-r}
 use Rattle.decimal.proofs.Laws.{last-part}
-use Rattle.plan.specs.Plan.{image, codesOf}
+use Rattle.plan.specs.Plan.{lineCodes}
 use Rattle.verdicts.specs.Tests.{firstFault, allHold}
 use Rattle.verdicts.specs.declared.Verdict.the-variants.{Fine}
 use Rattle.verdicts.proofs.Holding.{all-fine}
@@ -35,7 +36,7 @@ rest-room b at x h r = omega (arith, ap length (rest-is b at), length-drop at b)
 
 pub record LineFine (w l k : ℕ) (b : List ℕ) : Type 0 where
   pub whole : l ≤ length b
-  pub head : headerOf (k + 1) (codesOf image 1) l b ≡ Fine
+  pub head : headerOf (k + 1) (lineCodes 0) l b ≡ Fine
   pub body : firstFault (lineTests w k (take l b)) ≡ Fine
 
 -- so do the c lines from line k on, end to end
@@ -52,7 +53,7 @@ module _ (w l k : ℕ) (b : List ℕ) where
   unfolding lineFine
   no-room h n = rw (le-ltb (length b) l h, lt-ltb l 32 n)
 
-  pub tested : l ≤ length b → 32 ≤ l → bothOf (allHold (headerTests (k + 1) (codesOf image 1) l b)) (allHold (lineTests w k (take l b))) ≡ lineFine w l k b
+  pub tested : l ≤ length b → 32 ≤ l → bothOf (allHold (headerTests (k + 1) (lineCodes 0) l b)) (allHold (lineTests w k (take l b))) ≡ lineFine w l k b
   unfolding lineFine
   tested h n = rw (le-ltb (length b) l h, le-ltb l 32 n)
 
@@ -67,8 +68,9 @@ module _ (w l k : ℕ) (b : List ℕ) where
           let all = tested (ltb-false (length b) l h) (ltb-false l 32 n) ∙ e in
           record {
             whole = ltb-false (length b) l h;
-            head = all-fine (headerTests (k + 1) (codesOf image 1) l b) (both-l (allHold (headerTests (k + 1) (codesOf image 1) l b)) (allHold (lineTests w k (take l b))) all);
-            body = all-fine (lineTests w k (take l b)) (both-r (allHold (headerTests (k + 1) (codesOf image 1) l b)) (allHold (lineTests w k (take l b))) all);
+            head = all-fine (headerTests (k + 1) (lineCodes 0) l b)
+                (both-l (allHold (headerTests (k + 1) (lineCodes 0) l b)) (allHold (lineTests w k (take l b))) all);
+            body = all-fine (lineTests w k (take l b)) (both-r (allHold (headerTests (k + 1) (lineCodes 0) l b)) (allHold (lineTests w k (take l b))) all);
           }
 
 -- the count of lines, by its cases
@@ -101,15 +103,19 @@ module _ (w l k most c at : ℕ) (b : List ℕ) where
     pub count-stop : c < most → lineFine w l (k + c) (rest b at) ≡ false → c ≡ linesFine w l k most b
     count-stop h n =
         let e : most - c ≡ suc (most - (c + 1)) = omega arith in
-        let z = ap (λ (i : ℕ). linesFine w l (k + c) i (drop at b)) e ∙ lines-stop w l (k + c) (drop at b) (most - (c + 1)) (ap (lineFine w l (k + c)) (sym (rest-is b at)) ∙ n) in
+        let z = ap (λ (i : ℕ). linesFine w l (k + c) i (drop at b)) e
+        ∙ lines-stop w l (k + c) (drop at b) (most - (c + 1)) (ap (lineFine w l (k + c)) (sym (rest-is b at)) ∙ n) in
         omega (arith, before, z)
 
-    pub count-more : c < most → lineFine w l (k + c) (rest b at) ≡ true → c + 1 + linesFine w l (k + (c + 1)) (most - (c + 1)) (drop (at + l) b) ≡ linesFine w l k most b
+    pub count-more : c < most → lineFine w l (k + c) (rest b at) ≡ true → c + 1 + linesFine w l (k + (c + 1)) (most - (c + 1))
+        (drop (at + l) b) ≡ linesFine w l k most b
     count-more h n =
         let e : most - c ≡ suc (most - (c + 1)) = omega arith in
         let s : suc (k + c) ≡ k + (c + 1) = omega arith in
-        let z = ap (λ (i : ℕ). linesFine w l (k + c) i (drop at b)) e ∙ lines-step w l (k + c) (drop at b) (most - (c + 1)) (ap (lineFine w l (k + c)) (sym (rest-is b at)) ∙ n) in
-        let d = ap (λ (y : List ℕ). linesFine w l (suc (k + c)) (most - (c + 1)) y) (drop-drop l at b) ∙ ap (λ (i : ℕ). linesFine w l i (most - (c + 1)) (drop (at + l) b)) s in
+        let z = ap (λ (i : ℕ). linesFine w l (k + c) i (drop at b)) e
+        ∙ lines-step w l (k + c) (drop at b) (most - (c + 1)) (ap (lineFine w l (k + c)) (sym (rest-is b at)) ∙ n) in
+        let d = ap (λ (y : List ℕ). linesFine w l (suc (k + c)) (most - (c + 1)) y) (drop-drop l at b)
+        ∙ ap (λ (i : ℕ). linesFine w l i (most - (c + 1)) (drop (at + l) b)) s in
         omega (arith, before, z, d)
 
 pub count-none : (w l k most : ℕ) (b : List ℕ) → Counting w l k most 0 0 b
@@ -128,7 +134,8 @@ fine-room w l k at b h e = rest-room b at l h (line-fine w l k (rest b at) e .wh
 pub lines-few : (w l k most : ℕ) (b : List ℕ) → linesFine w l k most b ≤ most
 lines-few w l k zero b = omega (arith, lines-none w l k b)
 lines-few w l k (suc most) b =
-    ⊎-elim (λ e. omega (arith, lines-step w l k b most e, lines-few w l (suc k) most (drop l b))) (λ e. omega (arith, lines-stop w l k b most e)) (cases (lineFine w l k b))
+    ⊎-elim (λ e. omega (arith, lines-step w l k b most e, lines-few w l (suc k) most (drop l b))) (λ e. omega (arith, lines-stop w l k b most e))
+    (cases (lineFine w l k b))
 
 pub lines-room : (w l k most : ℕ) (b : List ℕ) → linesFine w l k most b * l ≤ length b
 lines-room w l k zero b = rw (lines-none w l k b, zero-mul) (omega arith)
@@ -143,17 +150,20 @@ lines-room w l k (suc most) b =
 -- a line and those behind it
 lines-cons : (w l k c : ℕ) (b : List ℕ) → LineFine w l k b → LinesFine w l (suc k) c (drop l b) → LinesFine w l k (suc c) b
 lines-cons w l k c b f fs zero h =
-    subst (λ (j : ℕ). LineFine w l j (drop (0 * l) b)) (let e : k ≡ k + 0 = omega arith in e) (subst (λ (j : ℕ). LineFine w l k (drop j b)) (sym (zero-mul l)) f)
+    subst (λ (j : ℕ). LineFine w l j (drop (0 * l) b)) (let e : k ≡ k + 0 = omega arith in e)
+    (subst (λ (j : ℕ). LineFine w l k (drop j b)) (sym (zero-mul l)) f)
 lines-cons w l k c b f fs (suc i) h =
     subst (λ (j : ℕ). LineFine w l j (drop (suc i * l) b)) (let e : suc k + i ≡ k + suc i = omega arith in e)
-    (subst (λ (x : List ℕ). LineFine w l (suc k + i) x) (drop-drop (i * l) l b ∙ ap (λ (j : ℕ). drop j b) (let e : l + i * l ≡ suc i * l = omega (arith, suc-mul i l) in e))
+    (subst (λ (x : List ℕ). LineFine w l (suc k + i) x) (drop-drop (i * l) l b
+    ∙ ap (λ (j : ℕ). drop j b) (let e : l + i * l ≡ suc i * l = omega (arith, suc-mul i l) in e))
     (fs i (omega arith)))
 
 pub lines-are : (w l k most : ℕ) (b : List ℕ) → LinesFine w l k (linesFine w l k most b) b
 lines-are w l k zero b = rw (lines-none w l k b) (λ i h. absurd (omega arith))
 lines-are w l k (suc most) b =
     ⊎-elim
-    (λ e. rw (lines-step w l k b most e) (lines-cons w l k (linesFine w l (suc k) most (drop l b)) b (line-fine w l k b e) (lines-are w l (suc k) most (drop l b))))
+    (λ e. rw (lines-step w l k b most e)
+    (lines-cons w l k (linesFine w l (suc k) most (drop l b)) b (line-fine w l k b e) (lines-are w l (suc k) most (drop l b))))
     (λ e. rw (lines-stop w l k b most e) (λ i h. absurd (omega arith)))
     (cases (lineFine w l k b))
 
@@ -163,7 +173,8 @@ lines-are w l k (suc most) b =
 pub tail-fine : (w l k c : ℕ) (b : List ℕ) → LinesFine w l k (suc c) b → LinesFine w l (suc k) c (drop l b)
 tail-fine w l k c b f i h =
     subst (λ (j : ℕ). LineFine w l j (drop (i * l) (drop l b))) (let e : k + suc i ≡ suc k + i = omega arith in e)
-    (subst (λ (x : List ℕ). LineFine w l (k + suc i) x) (ap (λ (j : ℕ). drop j b) (let e : suc i * l ≡ l + i * l = omega (arith, suc-mul i l) in e) ∙ sym (drop-drop (i * l) l b))
+    (subst (λ (x : List ℕ). LineFine w l (k + suc i) x) (ap (λ (j : ℕ). drop j b) (let e : suc i * l ≡ l + i * l = omega (arith, suc-mul i l) in e)
+    ∙ sym (drop-drop (i * l) l b))
     (f (suc i) (omega arith)))
 
 pub head-fine : (w l k c : ℕ) (b : List ℕ) → LinesFine w l k (suc c) b → LineFine w l k b

@@ -1,11 +1,12 @@
--- How many lines of an image hold what they must, one after the other: what the code that passes them at once counts. `Turn` knows nothing of it. Assumes nothing.
+-- How many lines of an image hold what they must, one after the other: what the code that passes them at once counts. `Turn` knows nothing of it. Assumes
+-- nothing.
 use Prim.Native.Nat.{ℕ, zero, suc, _+_}
 use mathlib.Core.List.{List}
 use mathlib.Core.Bool.{Bool, false}
 use lib.ListN.{length, take, drop}
 use lib.Dec.{ltb}
 use Rattle.words.specs.Tests.{pick, bothOf}
-use Rattle.plan.specs.Plan.{image, codesOf}
+use Rattle.plan.specs.Plan.{lineCodes}
 use Rattle.verdicts.specs.Tests.{allHold}
 use Rattle.image.specs.Image.{lineTests}
 use Rattle.headers.specs.Header.{headerTests}
@@ -13,7 +14,7 @@ use Rattle.headers.specs.Header.{headerTests}
 -- whether line k's record begins these bytes, is whole, has room for a line's numbers, and holds what it must
 unfoldable pub lineFine : ℕ → ℕ → ℕ → List ℕ → Bool
 lineFine w l k b =
-    pick (ltb (length b) l) false (pick (ltb l 32) false (bothOf (allHold (headerTests (k + 1) (codesOf image 1) l b)) (allHold (lineTests w k (take l b)))))
+    pick (ltb (length b) l) false (pick (ltb l 32) false (bothOf (allHold (headerTests (k + 1) (lineCodes 0) l b)) (allHold (lineTests w k (take l b)))))
 
 -- how many are so from line k on, at most so many
 unfoldable pub linesFine : ℕ → ℕ → ℕ → ℕ → List ℕ → ℕ

@@ -4,12 +4,12 @@
 use plan::Codes;
 ghost use mathlib.Core.Path.{_≡_};
 ghost use Prim.Native.Nat.{_+_, _≤_};
-ghost use Rattle.plan.specs.Plan.{image, codesOf};
+ghost use Rattle.plan.specs.Plan.{lineCodes, recordsMost};
 ghost use Rattle.ahead.specs.Lines.{lineFine, linesFine};
 
 // Line k's record begins these bytes, is whole, has room for a line's numbers, and holds what it must.
 fn line_fine(c: Codes, w: u64, l: u64, k: u64, b: &[u8]) -> bool
-    requires { ⌜ (c ≡ codesOf image 1) × (k ≤ 17000000) ⌝ }
+    requires { ⌜ (c ≡ lineCodes 0) × (k ≤ recordsMost) ⌝ }
     ensures { λ r. ⌜ r ≡ lineFine w l k (now (b .entry)) ⌝ }
 {
     if (b.len() as u64) < l {
@@ -28,10 +28,10 @@ fn line_fine(c: Codes, w: u64, l: u64, k: u64, b: &[u8]) -> bool
 
 // How many lines from line k on pass one after the other, at most that many.
 pub fn lines_ahead(w: u64, l: u64, k: u64, most: u64, b: &[u8]) -> u64
-    requires { ⌜ k + most ≤ 17000000 ⌝ }
+    requires { ⌜ k + most ≤ recordsMost ⌝ }
     ensures { λ r. ⌜ r ≡ linesFine w l k most (now (b .entry)) ⌝ }
 {
-    let codes = plan::codes_of(plan::IMAGE, 1);
+    let codes = plan::line_codes(0);
     let mut c: u64 = 0;
     let mut at: usize = 0;
     while c < most {

@@ -1,1 +1,2 @@
-pub mod First
+pub mod Named
+pub mod FoundLaws

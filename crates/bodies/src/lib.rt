@@ -1,24 +1,89 @@
 // What each record's body must hold, beyond its header: document 01's rules as tests in its order (fixed
 // texts, number fields, agreements), of the record that is due; and the plan's numbers that a first record
-// names. The leader's and the image's rules stand in crates of their own. Places are in the record, from 0.
-mod volume;
-
-use decimal::Form;
+// names, out of the same reading. Each kind's rules stand in a crate of their own; a trailer has only the
+// first record's text. Places are in the record, from 0.
 use plan::Plan;
 use verdicts::Verdict;
 ghost use mathlib.Core.Path.{_≡_};
-ghost use Rattle.verdicts.specs.Tests.{firstFault};
-ghost use Rattle.bodies.specs.Bodies.{trailerTests, bodyOf};
-ghost use Rattle.bodies.specs.Named.{planOf};
+ghost use Rattle.plan.specs.Plan.{volume, leader, image, trailer};
+ghost use Rattle.bodies.specs.Bodies.{bodyOf};
+ghost use Rattle.bodies.specs.Named.{firstOf, foundOf};
 
-fn trailer(r: &[u8]) -> Verdict
-    ensures { λ v. ⌜ v ≡ firstFault (trailerTests (now (r .entry))) ⌝ }
-{
-    checks::first_text(r)
+// What was found in a record, and the plan behind it: a first record that is fine names one, and one that
+// is wrong none; behind any other record the plan is as it was.
+pub struct Found {
+    pub verdict: Verdict,
+    pub plan: Plan,
 }
 
-// What is found in record k's body (k from 0), which is of that run; run 0 is the first record.
-pub fn judge(kind: u64, run: u64, p: Plan, k: u64, r: &[u8]) -> Verdict
+// A directory's descriptor.
+fn of_volume(r: &[u8]) -> Found
+    ensures { λ x. ⌜ x ≡ firstOf volume (now (r .entry)) ⌝ }
+{
+    let x = volume::descriptor(r);
+    let verdict = x.verdict;
+    let mut plan = plan::zero();
+    plan.pointers = x.pointers;
+    Found { verdict, plan }
+}
+
+// A leader's descriptor.
+fn of_leader(r: &[u8]) -> Found
+    ensures { λ x. ⌜ x ≡ firstOf leader (now (r .entry)) ⌝ }
+{
+    let x = leader::descriptor(r);
+    let verdict = x.verdict;
+    let counts = x.counts;
+    let lengths = x.lengths;
+    let mut plan = plan::zero();
+    plan.counts = counts;
+    plan.lengths = lengths;
+    Found { verdict, plan }
+}
+
+// An image's descriptor.
+fn of_image(r: &[u8]) -> Found
+    ensures { λ x. ⌜ x ≡ firstOf image (now (r .entry)) ⌝ }
+{
+    let x = image::descriptor(r);
+    let verdict = x.verdict;
+    let mut plan = plan::zero();
+    plan.n = x.n;
+    plan.l = x.l;
+    plan.w = x.w;
+    plan.d = x.d;
+    plan.s = x.s;
+    Found { verdict, plan }
+}
+
+// A trailer, which names no numbers.
+fn of_trailer(r: &[u8]) -> Found
+    ensures { λ x. ⌜ x ≡ firstOf trailer (now (r .entry)) ⌝ }
+{
+    let verdict = verdicts::first_text(r);
+    let plan = plan::zero();
+    Found { verdict, plan }
+}
+
+// What is found in the first record of a file of that kind, read once.
+fn first(kind: u64, r: &[u8]) -> Found
+    ensures { λ x. ⌜ x ≡ firstOf kind (now (r .entry)) ⌝ }
+{
+    if kind == plan::VOLUME {
+        return of_volume(r);
+    }
+    if kind == plan::LEADER {
+        return of_leader(r);
+    }
+    if kind == plan::IMAGE {
+        return of_image(r);
+    }
+    of_trailer(r)
+}
+
+// What is found in record k's body (k from 0), which is of that run and not the first.
+fn later(kind: u64, run: u64, p: Plan, k: u64, r: &[u8]) -> Verdict
+    requires { ⌜ (run ≡ 0 → ⊥) ⌝ }
     ensures { λ v. ⌜ v ≡ bodyOf kind run p k (now (r .entry)) ⌝ }
 {
     if kind == plan::VOLUME {
@@ -28,33 +93,20 @@ pub fn judge(kind: u64, run: u64, p: Plan, k: u64, r: &[u8]) -> Verdict
         return leader::record(run, r);
     }
     if kind == plan::IMAGE {
-        return image::record(run, p.w, k, r);
+        return image::line(p.w, k, r);
     }
-    trailer(r)
+    verdicts::first_text(r)
 }
 
-// The plan's numbers that the first record of a file of that kind names.
-pub fn plan_of(kind: u64, r: &[u8]) -> Plan
-    ensures { λ p. ⌜ p ≡ planOf kind (now (r .entry)) ⌝ }
+// What is found in record k's body (k from 0), which is of that run; run 0 is the first record.
+pub fn judge(kind: u64, run: u64, p: Plan, k: u64, r: &[u8]) -> Found
+    ensures { λ x. ⌜ x ≡ foundOf kind run p k (now (r .entry)) ⌝ }
 {
-    let mut p = plan::zero();
-    if kind == plan::VOLUME {
-        p.pointers = checks::number_at(r, 161, Form::I4);
-        return p;
+    if run == 0 {
+        return first(kind, r);
     }
-    if kind == plan::LEADER {
-        let c = leader::counts(r);
-        let l = leader::lengths(r);
-        p.counts = c;
-        p.lengths = l;
-        return p;
+    Found {
+        verdict: later(kind, run, p, k, r),
+        plan: p,
     }
-    if kind == plan::IMAGE {
-        p.n = checks::number_at(r, 181, Form::I6);
-        p.l = checks::number_at(r, 187, Form::I6);
-        p.w = checks::number_at(r, 249, Form::I8);
-        p.d = checks::number_at(r, 281, Form::I8);
-        p.s = checks::number_at(r, 289, Form::I4);
-    }
-    p
 }

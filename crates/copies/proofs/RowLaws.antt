@@ -8,9 +8,10 @@ use lib.ListN.{length, getD, set, take, drop, length-set}
 use lib.Seq.{set-at, drop-at, drop-cons, drop-drop, append-snoc}
 use borrow.Author.Tests.{lt-ltb, le-ltb}
 use Rattle.words.specs.Words.{twoAt}
+use Rattle.words.specs.Answer.{bareRefusal}
 use Rattle.words.specs.declared.Refusal.{Refusal}
 use Rattle.plan.specs.Plan.{group}
-use Rattle.lines.specs.View.{viewOf, bareRefusal}
+use Rattle.lines.specs.View.{viewOf}
 use Rattle.copies.specs.Row.{samplesFrom, samples, copiedBy, rowBy, copiedOf, rowOf}
 use Rattle.lines.specs.declared.View.{View}
 use Rattle.lines.specs.declared.View.the-variants.{Shown, Wait, Refused}

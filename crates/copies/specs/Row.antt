@@ -5,8 +5,9 @@ use lib.Dec.{ltb}
 use lib.ListN.{length, drop}
 use Rattle.words.specs.Tests.{pick}
 use Rattle.words.specs.Words.{twoAt}
+use Rattle.words.specs.Answer.{bareRefusal}
 use Rattle.plan.specs.Plan.{group}
-use Rattle.lines.specs.View.{viewOf, shownBytes, bareRefusal}
+use Rattle.lines.specs.View.{viewOf, shownBytes}
 use Rattle.lines.specs.declared.View.{View}
 use Rattle.lines.specs.declared.View.the-variants.{Shown, Wait, Refused}
 use Rattle.copies.specs.declared.Copied.{Copied}

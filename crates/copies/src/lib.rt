@@ -8,7 +8,6 @@ ghost use Prim.Native.Nat.{_+_, _*_, _≤_};
 ghost use lib.ListN.{length, drop};
 ghost use Rattle.words.specs.Words.{twoAt};
 ghost use Rattle.plan.specs.Plan.{group};
-ghost use Rattle.lines.specs.View.{bareRefusal};
 ghost use Rattle.copies.specs.Row.{samples, copiedOf, rowOf};
 
 // What the row copy answers: how many samples were copied; or a wait or a refusal, and nothing was.
@@ -58,17 +57,6 @@ fn write(px: &[u8], count: usize, row: &mut [u16])
     }
 }
 
-// The row is shorter than the line's data pixels: 15, which names no record.
-fn short_row() -> Refusal
-    ensures { λ r. ⌜ r ≡ bareRefusal 15 ⌝ }
-{
-    Refusal {
-        number: 15,
-        record: 0,
-        place: 0,
-    }
-}
-
 // The row copy: the line's data pixels as 16-bit numbers to the start of the lent row. 15 comes last;
 // on a wait or a refusal every sample stays.
 pub fn row_copy(bytes: &[u8], k: u64, row: &mut [u16]) -> Copied
@@ -81,7 +69,7 @@ pub fn row_copy(bytes: &[u8], k: u64, row: &mut [u16]) -> Copied
         View::Refused(r) => Copied::Refused(r),
         View::Shown(start, count, _) => {
             if (row.len() as u64) < count {
-                return Copied::Refused(short_row());
+                return Copied::Refused(words::bare(15));
             }
             let from = start as usize;
             let to = (start + plan::GROUP * count) as usize;

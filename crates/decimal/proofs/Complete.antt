@@ -10,14 +10,15 @@ use lib.Dec.{eqb}
 use lib.IntN.{ℤ}
 use borrow.Author.Tests.{ne-eqb, le-leb}
 use Rattle.words.specs.Tests.{pick}
-use Rattle.decimal.specs.Scan.{afterBlanks, digitsOf, withSign, signOf, headOf, onPart, mantissaOf, exponentOf, numberOf, decimalOf, orBlank, scaledOf, signedDigits}
+use Rattle.digits.specs.Segments.{afterBlanks, digitsOf, withSign, signOf, headOf, onPart, mantissaOf, exponentOf, signedDigits}
+use Rattle.decimal.specs.Scan.{numberIn, decimalOf, orBlank, scaledOf}
 use Rattle.decimal.specs.Grammar.{Numeral, after, Sign, plus, minus, mark, negative, Lead, bare, with, signedOf, Good, blank, whole, fixed, expo}
 use Rattle.decimal.proofs.Spelt.{dot, Spelt, spelt, of-whole, of-point}
-use Rattle.decimal.specs.declared.Sort.{Sort}
+use Rattle.decimal.specs.declared.Shape.{Shape}
 use Rattle.decimal.specs.declared.Written.{Written}
 use Rattle.decimal.specs.declared.Written.the-variants.{Number}
-use Rattle.decimal.specs.declared.Digits.the-variants.{Count}
-use Rattle.decimal.specs.declared.Part.the-variants.{Signed, Wrong}
+use Rattle.digits.specs.declared.Digits.the-variants.{Count}
+use Rattle.digits.specs.declared.Part.the-variants.{Signed, Wrong}
 
 pub numeral : (a : ℕ) (cs : List ℕ) → Numeral cs → digitsOf a cs ≡ Count (after a cs)
 numeral a [] n = refl
@@ -76,7 +77,8 @@ inked (later {c} {cs} i) r = go (eqb c 32) (inked i r)
     go true h = h
     go false h = refl
 
-tail-inked : (p : Bool) (d : ℕ) {bs : List ℕ} {s : Bool} {a : ℕ} → ((ps : List ℕ) → Numeral ps → length ps ≡ d → Inked (dot p ++ ps)) → Spelt p d bs s a → Inked bs
+tail-inked : (p : Bool) (d : ℕ) {bs : List ℕ} {s : Bool} {a : ℕ} →
+    ((ps : List ℕ) → Numeral ps → length ps ≡ d → Inked (dot p ++ ps)) → Spelt p d bs s a → Inked bs
 tail-inked p d h (spelt b {g} ws ps l n m e) = inked-right (replicate b 32) (inked-right g (inked-right ws (h ps m e)))
 
 last-inked : (ps : List ℕ) → Numeral ps → length ps ≡ 1 → Inked ps
@@ -87,12 +89,13 @@ all-blank : (n : ℕ) → afterBlanks (replicate n 32) ≡ []
 all-blank zero = refl
 all-blank (suc n) = all-blank n
 
-scales : (s : Bool) (a : ℕ) (g : Sign) (ds : List ℕ) → Numeral ds → scaledOf (Signed s a) (signedDigits (mark g) ds) ≡ Number (signedOf s a) (signedOf (negative g) (after 0 ds))
+scales : (s : Bool) (a : ℕ) (g : Sign) (ds : List ℕ) → Numeral ds → scaledOf (Signed s a) (signedDigits (mark g) ds) ≡ Number (signedOf s a)
+    (signedOf (negative g) (after 0 ds))
 scales s a plus ds n = rw (numeral 0 ds n)
 scales s a minus ds n = rw (numeral 0 ds n)
 
-pub complete : (k : Sort) {bs : List ℕ} {r : Written} → Good k bs r → decimalOf k bs ≡ r
-unfolding decimalOf numberOf exponentOf
+pub complete : (k : Shape) {bs : List ℕ} {r : Written} → Good k bs r → decimalOf k bs ≡ r
+unfolding decimalOf numberIn exponentOf
 complete k (blank _ n) = rw (all-blank n)
 complete k (whole {bs} w) =
     let m = of-whole w in

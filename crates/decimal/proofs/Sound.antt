@@ -9,17 +9,18 @@ use lib.ListN.{length, getD, take, drop, replicate, take-append-drop, length-dro
 use lib.Seq.{split-at, length-take-le}
 use borrow.Author.Tests.{eqb-true, leb-true}
 use Rattle.words.specs.Tests.{pick}
-use Rattle.decimal.specs.Scan.{afterBlanks, digitsOf, withSign, signOf, headOf, onPart, mantissaOf, exponentOf, numberOf, decimalOf, orBlank, plainOf, scaledOf, Fit}
+use Rattle.digits.specs.Segments.{afterBlanks, digitsOf, withSign, signOf, headOf, onPart, mantissaOf, exponentOf}
+use Rattle.decimal.specs.Scan.{numberIn, decimalOf, orBlank, plainOf, scaledOf, Fit}
 use Rattle.decimal.specs.Grammar.{Numeral, after, Sign, plus, minus, mark, negative, Lead, bare, with, signedOf, Good, blank, whole, fixed, expo}
 use Rattle.decimal.proofs.Spelt.{dot, Spelt, spelt, to-whole, to-point}
-use Rattle.decimal.specs.declared.Sort.{Sort}
-use Rattle.decimal.specs.declared.Sort.the-variants.{Whole, Fixed, Expo}
+use Rattle.decimal.specs.declared.Shape.{Shape}
+use Rattle.decimal.specs.declared.Shape.the-variants.{Whole, Fixed, Expo}
 use Rattle.decimal.specs.declared.Written.{Written}
 use Rattle.decimal.specs.declared.Written.the-variants.{Number, Blank, Bad}
-use Rattle.decimal.specs.declared.Digits.{Digits}
-use Rattle.decimal.specs.declared.Digits.the-variants.{Count, Stray}
-use Rattle.decimal.specs.declared.Part.{Part}
-use Rattle.decimal.specs.declared.Part.the-variants.{Signed, Wrong}
+use Rattle.digits.specs.declared.Digits.{Digits}
+use Rattle.digits.specs.declared.Digits.the-variants.{Count, Stray}
+use Rattle.digits.specs.declared.Part.{Part}
+use Rattle.digits.specs.declared.Part.the-variants.{Signed, Wrong}
 use Rattle.decimal.proofs.Complete.{after-append}
 
 not-bad : (n : ℕ) → Stray ≡ Count n → ⊥
@@ -76,7 +77,8 @@ sign [] s a e = bare-head [] s a e
 sign (c ∷ cs) s a e = go (eqb c 45) (eqb c 43) refl refl e
   where
     go : (b b′ : Bool) → eqb c 45 ≡ b → eqb c 43 ≡ b′
-        → pick b (withSign true (digitsOf 0 cs)) (pick b′ (withSign false (digitsOf 0 cs)) (withSign false (digitsOf 0 (c ∷ cs)))) ≡ Signed s a → Head (c ∷ cs) s a
+        → pick b (withSign true (digitsOf 0 cs)) (pick b′ (withSign false (digitsOf 0 cs)) (withSign false (digitsOf 0 (c ∷ cs)))) ≡ Signed s a → Head
+        (c ∷ cs) s a
     go true b′ m q h = rw (eqb-true c 45 m) (signed-head minus cs s a h)
     go false true m q h = rw (eqb-true c 43 q) (signed-head plus cs s a h)
     go false false m q h = bare-head (c ∷ cs) s a h
@@ -108,7 +110,8 @@ build p d hs o ps s a x l =
     let q : hs ++ (dot p ++ ps) ≡ replicate (b .0) 32 ++ (h .sign ++ (h .rest ++ (dot p ++ ps))) =
     ap (λ (t : List ℕ). t ++ (dot p ++ ps)) (b .1 ∙ ap (λ (t : List ℕ). replicate (b .0) 32 ++ t) (h .bytes)) ∙ simp append-assoc in
     let v : after 0 (h .rest ++ ps) ≡ a = after-append 0 (h .rest) ps ∙ ap (λ (n : ℕ). after n ps) (h .value) ∙ m .1 in
-    rw q (subst (λ (n : ℕ). Spelt p d (replicate (b .0) 32 ++ (h .sign ++ (h .rest ++ (dot p ++ ps)))) s n) v (spelt (b .0) (h .rest) ps (h .lead) (h .numeral) (m .0) l))
+    rw q (subst (λ (n : ℕ). Spelt p d (replicate (b .0) 32 ++ (h .sign ++ (h .rest ++ (dot p ++ ps)))) s n) v
+    (spelt (b .0) (h .rest) ps (h .lead) (h .numeral) (m .0) l))
 
 -- the bytes that the point takes
 abbrev dots : Bool → ℕ
@@ -158,7 +161,7 @@ exponent (c ∷ (g ∷ cs)) s a e = go (eqb c 69) (eqb g 45) (eqb g 43) refl ref
     go false y z p q r h = absurd (not-wrong s a h)
 
 -- the answer is well written, or it is that nothing with these bytes is
-pub data Found (k : Sort) (bs : List ℕ) : Written → Type 0 where
+pub data Found (k : Shape) (bs : List ℕ) : Written → Type 0 where
   good : {r : Written} → Good k bs r → Found k bs r
   none : Found k bs Bad
 
@@ -169,8 +172,8 @@ scaled d fs xs s a t n w x l q =
     (subst₂ (λ (u : Bool) (m : ℕ). Good (Expo d) (fs ++ 69 ∷ (mark (x .sign) ∷ x .rest)) (Number (signedOf s a) (signedOf u m))) (x .minus?) (x .value)
     (expo (to-point w) (x .sign) (x .rest) (x .numeral) (omega (arith, ap length (x .bytes)))))
 
-number : (k : Sort) (bs : List ℕ) → Fit k (length bs) → Found k bs (numberOf k bs)
-unfolding numberOf
+number : (k : Shape) (bs : List ℕ) → Fit k (length bs) → Found k bs (numberIn k bs)
+unfolding numberIn
 number Whole bs f = go (mantissaOf false 1 bs) refl
   where
     go : (x : Part) → mantissaOf false 1 bs ≡ x → Found Whole bs (plainOf x)
@@ -192,13 +195,14 @@ number (Expo d) bs f = go (mantissaOf true d (take (length bs - 4) bs)) (exponen
     go (Signed s a) Wrong p q = none
     go Wrong y p q = none
 
--- what is read of bytes that a sort fits is well written, or is that they are badly written
-pub sound : (k : Sort) (bs : List ℕ) → Fit k (length bs) → Found k bs (decimalOf k bs)
+-- what is read of bytes that a shape fits is well written, or is that they are badly written
+pub sound : (k : Shape) (bs : List ℕ) → Fit k (length bs) → Found k bs (decimalOf k bs)
 unfolding decimalOf
 sound k bs f = go (afterBlanks bs) refl
   where
-    go : (xs : List ℕ) → afterBlanks bs ≡ xs → Found k bs (orBlank xs (numberOf k bs))
+    go : (xs : List ℕ) → afterBlanks bs ≡ xs → Found k bs (orBlank xs (numberIn k bs))
     go [] e =
         let b = blanks bs in
-        subst (λ (t : List ℕ). Found k t Blank) (sym (b .1 ∙ ap (λ (l : List ℕ). replicate (b .0) 32 ++ l) e ∙ append-nil (replicate (b .0) 32))) (good (blank k (b .0)))
+        subst (λ (t : List ℕ). Found k t Blank) (sym (b .1 ∙ ap (λ (l : List ℕ). replicate (b .0) 32 ++ l) e ∙ append-nil (replicate (b .0) 32)))
+        (good (blank k (b .0)))
     go (c ∷ cs) e = number k bs f

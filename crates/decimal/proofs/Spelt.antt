@@ -1,4 +1,5 @@
--- The two sorts of mantissa as one, with a point or without and with d places behind it, so that each fact is shown once over both: a whole number is spelt without a point and with its last digit as the one place.
+-- The two shapes of mantissa as one, with a point or without and with d places behind it, so that each fact is shown once over both: a whole number is
+-- spelt without a point and with its last digit as the one place.
 use Prim.Native.Nat.{ℕ, zero, suc, _-_}
 use mathlib.Core.Path.{_≡_, refl, subst}
 use mathlib.Core.List.{List, [], _∷_, _++_}

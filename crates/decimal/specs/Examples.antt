@@ -4,7 +4,8 @@ use mathlib.Core.List.{List, [], _∷_, map}
 use Prim.Native.String.{String}
 use lib.IntN.{pos, negsuc}
 use Rattle.decimal.specs.Text.{bytes}
-use Rattle.decimal.specs.Scan.{written, decimalOf, numberOf, mantissaOf, exponentOf}
+use Rattle.digits.specs.Segments.{mantissaOf, exponentOf}
+use Rattle.decimal.specs.Scan.{written, decimalOf, numberIn}
 use Rattle.decimal.specs.declared.Form.{Form}
 use Rattle.decimal.specs.declared.Form.the-variants.{I6, F8d3, F16d7, E20d13}
 use Rattle.decimal.specs.Answer.{writtenAs}
@@ -50,5 +51,5 @@ said =
     ∷ []
 
 pub examples : map says table ≡ said
-unfolding written decimalOf numberOf mantissaOf exponentOf
+unfolding written decimalOf numberIn mantissaOf exponentOf
 examples = refl

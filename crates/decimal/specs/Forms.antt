@@ -1,9 +1,9 @@
--- The seven forms in use: how wide each is, and what sort of number it holds (document 01, "Written numbers"; 002 for the notation). Assumes nothing.
+-- The seven forms in use: how wide each is, and what shape of number it holds (document 01, "Written numbers"; 002 for the notation). Assumes nothing.
 use Prim.Native.Nat.{ℕ}
 use Rattle.decimal.specs.declared.Form.{Form}
 use Rattle.decimal.specs.declared.Form.the-variants.{I4, I6, I8, I16, F8d3, F16d7, E20d13}
-use Rattle.decimal.specs.declared.Sort.{Sort}
-use Rattle.decimal.specs.declared.Sort.the-variants.{Whole, Fixed, Expo}
+use Rattle.decimal.specs.declared.Shape.{Shape}
+use Rattle.decimal.specs.declared.Shape.the-variants.{Whole, Fixed, Expo}
 
 -- how many bytes a field of the form has
 abbrev pub widthOf : Form → ℕ
@@ -16,11 +16,11 @@ widthOf F16d7 = 16
 widthOf E20d13 = 20
 
 -- whether it is whole, has places, or has an exponent too
-abbrev pub sortOf : Form → Sort
-sortOf I4 = Whole
-sortOf I6 = Whole
-sortOf I8 = Whole
-sortOf I16 = Whole
-sortOf F8d3 = Fixed 3
-sortOf F16d7 = Fixed 7
-sortOf E20d13 = Expo 13
+abbrev pub shapeOf : Form → Shape
+shapeOf I4 = Whole
+shapeOf I6 = Whole
+shapeOf I8 = Whole
+shapeOf I16 = Whole
+shapeOf F8d3 = Fixed 3
+shapeOf F16d7 = Fixed 7
+shapeOf E20d13 = Expo 13

@@ -7,10 +7,10 @@ use mathlib.Core.List.{List, [], _∷_, _++_}
 use mathlib.Core.Bool.{Bool, true, false}
 use lib.ListN.{length, replicate}
 use lib.IntN.{ℤ, pos, negℤ}
-use Rattle.decimal.specs.Forms.{widthOf, sortOf}
+use Rattle.decimal.specs.Forms.{widthOf, shapeOf}
 use Rattle.decimal.specs.declared.Form.{Form}
-use Rattle.decimal.specs.declared.Sort.{Sort}
-use Rattle.decimal.specs.declared.Sort.the-variants.{Whole, Fixed, Expo}
+use Rattle.decimal.specs.declared.Shape.{Shape}
+use Rattle.decimal.specs.declared.Shape.the-variants.{Whole, Fixed, Expo}
 use Rattle.decimal.specs.declared.Written.{Written}
 use Rattle.decimal.specs.declared.Written.the-variants.{Number, Blank, Bad}
 
@@ -24,6 +24,7 @@ abbrev pub after : ℕ → List ℕ → ℕ
 after a [] = a
 after a (c ∷ cs) = after (a * 10 + (c - 48)) cs
 
+-- the two signs
 pub data Sign : Type 0 where
   plus minus : Sign
 
@@ -32,6 +33,7 @@ abbrev pub mark : Sign → ℕ
 mark plus = 43
 mark minus = 45
 
+-- the sign is a minus
 abbrev pub negative : Sign → Bool
 negative plus = false
 negative minus = true
@@ -57,18 +59,18 @@ pub data PointNumber (d : ℕ) : List ℕ → ℤ → Type 0 where
       → PointNumber d (replicate b 32 ++ (g ++ (ws ++ 46 ∷ ps))) (signedOf s (after 0 (ws ++ ps)))
 
 -- a well-written field, and what it says. All blank is "blank". E: as F, then `E`, a sign, two digits
-pub data Good : Sort → List ℕ → Written → Type 0 where
-  blank : (k : Sort) (n : ℕ) → Good k (replicate n 32) Blank
+pub data Good : Shape → List ℕ → Written → Type 0 where
+  blank : (k : Shape) (n : ℕ) → Good k (replicate n 32) Blank
   whole : {bs : List ℕ} {m : ℤ} → WholeNumber bs m → Good Whole bs (Number m (pos 0))
   fixed : {d : ℕ} {bs : List ℕ} {m : ℤ} → PointNumber d bs m → Good (Fixed d) bs (Number m (pos 0))
   expo : {d : ℕ} {bs : List ℕ} {m : ℤ} → PointNumber d bs m → (g : Sign) (ds : List ℕ) → Numeral ds → length ds ≡ 2
       → Good (Expo d) (bs ++ 69 ∷ (mark g ∷ ds)) (Number m (signedOf (negative g) (after 0 ds)))
 
 -- a well-written field of a form: as many bytes as the form is wide
-abbrev pub Field : Form → List ℕ → Written → Type 0
-Field k bs r = (length bs ≡ widthOf k) × Good (sortOf k) bs r
+abbrev pub WellWritten : Form → List ℕ → Written → Type 0
+WellWritten k bs r = (length bs ≡ widthOf k) × Good (shapeOf k) bs r
 
 -- what bytes say: what the well-written field with these bytes says, or, where there is none, that they are badly written
-pub data Says (k : Form) (bs : List ℕ) : Written → Type 0 where
-  well : {r : Written} → Field k bs r → Says k bs r
-  badly : ((r : Written) → Field k bs r → ⊥) → Says k bs Bad
+pub data Means (k : Form) (bs : List ℕ) : Written → Type 0 where
+  well : {r : Written} → WellWritten k bs r → Means k bs r
+  badly : ((r : Written) → WellWritten k bs r → ⊥) → Means k bs Bad

@@ -1,139 +1,55 @@
--- The parts of a written number as functions of its bytes, from left to right: what the functions of `src/` compute. Nobody need believe
--- this file: `proofs/Sound` and `proofs/Complete` show that it says what `Grammar` says. Assumes nothing.
-use Prim.Native.Nat.{ℕ, _+_, _-_, _*_, _^_, _≤_, _<_}
-use mathlib.Core.Path.{_≡_}
+-- What a field says as a function of its bytes: the parts that its form has (`Segments` of `digits`), put together as the functions of
+-- `src/` do. Nobody need believe this file: `proofs/Sound` and `proofs/Complete` show that it says what `Grammar` says. Assumes nothing.
+use Prim.Native.Nat.{ℕ, _+_, _-_, _≤_}
 use mathlib.Core.List.{List, [], _∷_}
 use mathlib.Core.Bool.{Bool, true, false}
 use lib.Dec.{eqb}
-use lib.ListN.{length, getD, take, drop}
-use lib.Seq.{slice}
+use lib.ListN.{length, take, drop}
 use lib.IntN.{pos}
-use Rattle.words.specs.Tests.{pick, withinOf}
-use Rattle.decimal.specs.Forms.{widthOf, sortOf}
+use Rattle.words.specs.Tests.{pick}
+use Rattle.digits.specs.Segments.{afterBlanks, mantissaOf, exponentOf}
+use Rattle.digits.specs.declared.Part.{Part}
+use Rattle.digits.specs.declared.Part.the-variants.{Signed, Wrong}
+use Rattle.decimal.specs.Forms.{widthOf, shapeOf}
 use Rattle.decimal.specs.Grammar.{signedOf}
-use Rattle.decimal.specs.declared.Digits.{Digits}
-use Rattle.decimal.specs.declared.Digits.the-variants.{Count, Stray}
-use Rattle.decimal.specs.declared.Part.{Part}
-use Rattle.decimal.specs.declared.Part.the-variants.{Signed, Wrong}
 use Rattle.decimal.specs.declared.Form.{Form}
-use Rattle.decimal.specs.declared.Sort.{Sort}
-use Rattle.decimal.specs.declared.Sort.the-variants.{Whole, Fixed, Expo}
+use Rattle.decimal.specs.declared.Shape.{Shape}
+use Rattle.decimal.specs.declared.Shape.the-variants.{Whole, Fixed, Expo}
 use Rattle.decimal.specs.declared.Written.{Written}
 use Rattle.decimal.specs.declared.Written.the-variants.{Number, Blank, Bad}
 
--- what is left of the bytes after the blanks at their front
-abbrev pub afterBlanks : List ℕ → List ℕ
-afterBlanks [] = []
-afterBlanks (c ∷ cs) = pick (eqb c 32) (afterBlanks cs) (c ∷ cs)
-
--- the byte is a digit
-abbrev pub digit? : ℕ → Bool
-digit? c = withinOf 48 c 57
-
--- the number that the digits cs make behind a; Stray where one is no digit
-abbrev pub digitsOf : ℕ → List ℕ → Digits
-digitsOf a [] = Count a
-digitsOf a (c ∷ cs) = pick (digit? c) (digitsOf (a * 10 + (c - 48)) cs) Stray
-
-abbrev pub withSign : Bool → Digits → Part
-withSign s (Count a) = Signed s a
-withSign s Stray = Wrong
-
--- a sign, or none, and digits
-abbrev pub signOf : List ℕ → Part
-signOf [] = Signed false 0
-signOf (c ∷ cs) =
-    pick (eqb c 45) (withSign true (digitsOf 0 cs))
-    (pick (eqb c 43) (withSign false (digitsOf 0 cs)) (withSign false (digitsOf 0 (c ∷ cs))))
-
--- blanks, a sign or none, and digits
-abbrev pub headOf : List ℕ → Part
-headOf hs = signOf (afterBlanks hs)
-
--- what is to follow a part that was read, or that it was not
-abbrev pub onPart : {A : Type 0} → Part → A → (Bool → ℕ → A) → A
-onPart (Signed s a) x g = g s a
-onPart Wrong x g = x
-
--- the place of the point, where there is one: d bytes stand behind it
-abbrev pub pointed : Bool → ℕ → ℕ
-pointed true n = n - 1
-pointed false n = n
-
-abbrev pub point? : Bool → ℕ → Bool
-point? true c = eqb c 46
-point? false c = true
-
--- blanks, a sign or none, digits, the point where p says so, and d digits
-unfoldable pub mantissaOf : Bool → ℕ → List ℕ → Part
-mantissaOf p d bs =
-    let tail = length bs - d in
-    let head = pointed p tail in
-    onPart (headOf (take head bs)) Wrong (λ s a. pick (point? p (getD bs head 0)) (withSign s (digitsOf a (drop tail bs))) Wrong)
-
--- the sign and the digits of an exponent
-abbrev pub signedDigits : ℕ → List ℕ → Part
-signedDigits s cs = pick (eqb s 45) (withSign true (digitsOf 0 cs)) (pick (eqb s 43) (withSign false (digitsOf 0 cs)) Wrong)
-
--- `E`, a sign and digits
-unfoldable pub exponentOf : List ℕ → Part
-exponentOf [] = Wrong
-exponentOf (c ∷ []) = Wrong
-exponentOf (c ∷ (s ∷ cs)) = pick (eqb c 69) (signedDigits s cs) Wrong
-
+-- a mantissa alone is the number, with exponent 0
 abbrev pub plainOf : Part → Written
 plainOf (Signed s a) = Number (signedOf s a) (pos 0)
 plainOf Wrong = Bad
 
+-- a mantissa and an exponent, both read, are the number
 abbrev pub scaledOf : Part → Part → Written
 scaledOf (Signed s a) (Signed t e) = Number (signedOf s a) (signedOf t e)
 scaledOf (Signed s a) Wrong = Bad
 scaledOf Wrong y = Bad
 
-unfoldable pub numberOf : Sort → List ℕ → Written
-numberOf Whole bs = plainOf (mantissaOf false 1 bs)
-numberOf (Fixed d) bs = plainOf (mantissaOf true d bs)
-numberOf (Expo d) bs = scaledOf (mantissaOf true d (take (length bs - 4) bs)) (exponentOf (drop (length bs - 4) bs))
+-- what the bytes of a field that is not blank say, by its shape
+unfoldable pub numberIn : Shape → List ℕ → Written
+numberIn Whole bs = plainOf (mantissaOf false 1 bs)
+numberIn (Fixed d) bs = plainOf (mantissaOf true d bs)
+numberIn (Expo d) bs = scaledOf (mantissaOf true d (take (length bs - 4) bs)) (exponentOf (drop (length bs - 4) bs))
 
+-- blank where nothing is left after the blanks, else r
 abbrev pub orBlank : List ℕ → Written → Written
 orBlank [] r = Blank
 orBlank (c ∷ cs) r = r
 
--- what a field's bytes say, by its sort
-unfoldable pub decimalOf : Sort → List ℕ → Written
-decimalOf k bs = orBlank (afterBlanks bs) (numberOf k bs)
+-- what a field's bytes say, by its shape
+unfoldable pub decimalOf : Shape → List ℕ → Written
+decimalOf k bs = orBlank (afterBlanks bs) (numberIn k bs)
 
 -- what bytes say as a field of a form: badly written where they are not as many as it is wide
 unfoldable pub written : Form → List ℕ → Written
-written k bs = pick (eqb (length bs) (widthOf k)) (decimalOf (sortOf k) bs) Bad
+written k bs = pick (eqb (length bs) (widthOf k)) (decimalOf (shapeOf k) bs) Bad
 
--- the widths at which a sort's number fits 64 bits
-abbrev pub Fit : Sort → ℕ → Type 0
+-- the widths at which a shape's number fits 64 bits
+abbrev pub Fit : Shape → ℕ → Type 0
 Fit Whole n = (2 ≤ n) × (n ≤ 18)
 Fit (Fixed d) n = (d + 1 ≤ n) × (n ≤ 18)
 Fit (Expo d) n = (d + 5 ≤ n) × (n ≤ 22)
-
--- what the segments of the scanner promise: digits below n, a part below n
-abbrev pub Under : ℕ → Digits → Type 0
-Under n (Count a) = a < n
-Under n Stray = Unit {0}
-
-abbrev pub Small : ℕ → Part → Type 0
-Small n (Signed s a) = a < n
-Small n Wrong = Unit {0}
-
--- r is the first place from at on that holds no blank
-pub record Skipped (f : List ℕ) (at end r : ℕ) : Type 0 where
-  pub from : at ≤ r
-  pub upto : r ≤ end
-  pub rest : slice r end f ≡ afterBlanks (slice at end f)
-
--- r is what the digits from at to end say behind acc, and is small
-pub record Read (f : List ℕ) (at end acc : ℕ) (r : Digits) : Type 0 where
-  pub reads : r ≡ digitsOf acc (slice at end f)
-  pub small : Under (10 ^ end) r
-
--- r is the part x, and is small
-pub record Is (n : ℕ) (x r : Part) : Type 0 where
-  pub is : r ≡ x
-  pub small : Small (10 ^ n) r

@@ -1,14 +1,15 @@
 // Written numbers (document 01, "Written numbers"): what the bytes of a number field say.
 //
-// The grammar in specs/Grammar.antt is all that a reader must believe. The functions here read a
-// field from left to right in segments: blanks, a sign, digits, the point, the places, the exponent.
+// The grammar in specs/Grammar.antt is all that a reader must believe. The functions here choose the
+// parts that a field of the form has, which `digits` reads, and put the number together.
+use digits::Part;
 ghost use mathlib.Core.Path.{_≡_};
-ghost use Prim.Native.Nat.{_+_, _-_, _≤_, _<_, _^_};
-ghost use lib.ListN.{length, take};
-ghost use lib.Seq.{slice};
-ghost use Rattle.decimal.specs.Forms.{widthOf, sortOf};
-ghost use Rattle.decimal.specs.Grammar.{Says, signedOf};
-ghost use Rattle.decimal.specs.Scan.{Skipped, Read, Is, Small, Fit, withSign, headOf, mantissaOf, exponentOf, plainOf, scaledOf, decimalOf, written};
+ghost use Prim.Native.Nat.{_<_, _^_};
+ghost use lib.ListN.{length};
+ghost use Rattle.digits.specs.Segments.{Small};
+ghost use Rattle.decimal.specs.Forms.{widthOf, shapeOf};
+ghost use Rattle.decimal.specs.Grammar.{Means, signedOf};
+ghost use Rattle.decimal.specs.Scan.{Fit, plainOf, scaledOf, decimalOf, written};
 
 // The seven forms in use, as the sources write them: I4, I6, I8, I16, F8.3, F16.7, E20.13.
 pub enum Form {
@@ -30,22 +31,10 @@ pub enum Written {
 }
 
 // A form without its width: Iw, Fw.d with its places, E with its places.
-pub enum Sort {
+pub enum Shape {
     Whole,
     Fixed(usize),
     Expo(usize),
-}
-
-// Digits alone, or a byte that is none.
-pub enum Digits {
-    Count(u64),
-    Stray,
-}
-
-// A sign, true for minus, with digits; or a byte that no such part has there.
-pub enum Part {
-    Signed(bool, u64),
-    Wrong,
 }
 
 // How many bytes a field of this form has.
@@ -63,127 +52,18 @@ pub fn width(form: Form) -> usize
     }
 }
 
-fn sort_of(form: Form) -> Sort
-    ensures { λ r. ⌜ r ≡ sortOf form ⌝ }
+fn shape_of(form: Form) -> Shape
+    ensures { λ r. ⌜ r ≡ shapeOf form ⌝ }
 {
     match form {
-        Form::I4 => Sort::Whole,
-        Form::I6 => Sort::Whole,
-        Form::I8 => Sort::Whole,
-        Form::I16 => Sort::Whole,
-        Form::F8d3 => Sort::Fixed(3),
-        Form::F16d7 => Sort::Fixed(7),
-        Form::E20d13 => Sort::Expo(13),
+        Form::I4 => Shape::Whole,
+        Form::I6 => Shape::Whole,
+        Form::I8 => Shape::Whole,
+        Form::I16 => Shape::Whole,
+        Form::F8d3 => Shape::Fixed(3),
+        Form::F16d7 => Shape::Fixed(7),
+        Form::E20d13 => Shape::Expo(13),
     }
-}
-
-// The first place from `at` on that holds no blank, or `end`.
-fn skip(f: &[u8], at: usize, end: usize) -> usize
-    requires { ⌜ (at ≤ end) × (end ≤ length (now f)) ⌝ }
-    ensures { λ r. ⌜ Skipped (now (f .entry)) at end r ⌝ }
-{
-    let mut i = at;
-    while i < end {
-        if f[i] != b' ' {
-            return i;
-        }
-        i += 1;
-    }
-    i
-}
-
-// The digits from `at` to `end`, behind those that made `acc`.
-fn run(f: &[u8], at: usize, end: usize, acc: u64) -> Digits
-    requires { ⌜ (at ≤ end) × (end ≤ length (now f)) ⌝ }
-    requires { ⌜ (end ≤ 18) × (acc < 10 ^ at) ⌝ }
-    ensures { λ r. ⌜ Read (now (f .entry)) at end acc r ⌝ }
-{
-    let mut n = acc;
-    let mut i = at;
-    while i < end {
-        let c = f[i];
-        if c < b'0' {
-            return Digits::Stray;
-        }
-        if b'9' < c {
-            return Digits::Stray;
-        }
-        n = n * 10 + ((c - b'0') as u64);
-        i += 1;
-    }
-    Digits::Count(n)
-}
-
-fn with_sign(minus: bool, d: Digits) -> Part
-    ensures { λ r. ⌜ r ≡ withSign minus d ⌝ }
-{
-    match d {
-        Digits::Count(n) => Part::Signed(minus, n),
-        Digits::Stray => Part::Wrong,
-    }
-}
-
-// Blanks, a sign or none, and digits, up to `end`.
-fn head(f: &[u8], end: usize) -> Part
-    requires { ⌜ (end ≤ length (now f)) × (end ≤ 18) ⌝ }
-    ensures { λ r. ⌜ Is end (headOf (take end (now (f .entry)))) r ⌝ }
-{
-    let k = skip(f, 0, end);
-    if k < end {
-        let c = f[k];
-        if c == b'-' {
-            return with_sign(true, run(f, k + 1, end, 0));
-        }
-        if c == b'+' {
-            return with_sign(false, run(f, k + 1, end, 0));
-        }
-    }
-    with_sign(false, run(f, k, end, 0))
-}
-
-// A head, the point where there is one, and the places. I is F without a point and with one place:
-// its last byte is the digit that must be there.
-fn mantissa(f: &[u8], point: bool, places: usize) -> Part
-    requires { ⌜ (places + 1 ≤ length (now f)) × (length (now f) ≤ 18) ⌝ }
-    ensures { λ r. ⌜ Is 18 (mantissaOf point places (now (f .entry))) r ⌝ }
-{
-    let n = f.len();
-    let tail = n - places;
-    if point {
-        let h = tail - 1;
-        match head(f, h) {
-            Part::Signed(minus, a) => {
-                if f[h] != b'.' {
-                    return Part::Wrong;
-                }
-                with_sign(minus, run(f, tail, n, a))
-            }
-            Part::Wrong => Part::Wrong,
-        }
-    } else {
-        match head(f, tail) {
-            Part::Signed(minus, a) => with_sign(minus, run(f, tail, n, a)),
-            Part::Wrong => Part::Wrong,
-        }
-    }
-}
-
-// `E`, a sign and two digits.
-fn exponent(f: &[u8]) -> Part
-    requires { ⌜ length (now f) ≡ 4 ⌝ }
-    ensures { λ r. ⌜ Is 18 (exponentOf (now (f .entry))) r ⌝ }
-{
-    if f[0] != b'E' {
-        return Part::Wrong;
-    }
-    let c = f[1];
-    if c == b'-' {
-        return with_sign(true, run(f, 2, 4, 0));
-    }
-    if c == b'+' {
-        return with_sign(false, run(f, 2, 4, 0));
-    }
-    Part::Wrong
 }
 
 // The minus is applied to the digits, so minus zero is 0 and a minus before `0.5` is not lost.
@@ -219,20 +99,23 @@ fn scaled(x: Part, y: Part) -> Written
 }
 
 // What the bytes of a field say, whose width the caller has seen to.
-fn field(f: &[u8], sort: Sort) -> Written
-    requires { ⌜ Fit sort (length (now f)) ⌝ }
-    ensures { λ r. ⌜ r ≡ decimalOf sort (now (f .entry)) ⌝ }
+fn field(f: &[u8], shape: Shape) -> Written
+    requires { ⌜ Fit shape (length (now f)) ⌝ }
+    ensures { λ r. ⌜ r ≡ decimalOf shape (now (f .entry)) ⌝ }
 {
     let n = f.len();
-    if skip(f, 0, n) == n {
+    if digits::skip(f, 0, n) == n {
         return Written::Blank;
     }
-    match sort {
-        Sort::Whole => plain(mantissa(f, false, 1)),
-        Sort::Fixed(d) => plain(mantissa(f, true, d)),
-        Sort::Expo(d) => {
+    match shape {
+        Shape::Whole => plain(digits::mantissa(f, false, 1)),
+        Shape::Fixed(d) => plain(digits::mantissa(f, true, d)),
+        Shape::Expo(d) => {
             let e = n - 4;
-            scaled(mantissa(&f[..e], true, d), exponent(&f[e..]))
+            scaled(
+                digits::mantissa(&f[..e], true, d),
+                digits::exponent(&f[e..]),
+            )
         }
     }
 }
@@ -240,11 +123,11 @@ fn field(f: &[u8], sort: Sort) -> Written
 // What these bytes say as a field of this form. Bytes that are not as many as the form is wide are
 // badly written.
 pub fn read(f: &[u8], form: Form) -> Written
-    ensures { λ r. ⌜ Says form (now (f .entry)) r ⌝ }
+    ensures { λ r. ⌜ Means form (now (f .entry)) r ⌝ }
     ensures { λ r. ⌜ r ≡ written form (now (f .entry)) ⌝ }
 {
     if f.len() != width(form) {
         return Written::Bad;
     }
-    field(f, sort_of(form))
+    field(f, shape_of(form))
 }

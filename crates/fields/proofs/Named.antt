@@ -1,4 +1,5 @@
--- `field-named`: a field's answer, in document 01's words, is the grammar's answer on its bytes: a value exactly where they are written with that value, blank exactly where they are all blank, 6 exactly where they are neither; by the soundness and completeness of `decimal`.
+-- `field-named`: a field's answer, in document 01's words, is the grammar's answer on its bytes: a value exactly where they are written with that value,
+-- blank exactly where they are all blank, 6 exactly where they are neither; by the soundness and completeness of `decimal`.
 use Prim.Native.Nat.{ℕ, _+_, _-_, _≤_, _<_}
 use mathlib.Core.Path.{_≡_, refl, sym, ap, _∙_, subst}
 use mathlib.Core.List.{List}
@@ -14,12 +15,12 @@ use Rattle.words.specs.Words.{placeOf}
 use Rattle.words.specs.Tests.{withinOf}
 use Rattle.words.proofs.Laws.{within-true, within-false}
 use Rattle.words.specs.Answer.{Answer, valued, bare, blank}
-use Rattle.decimal.specs.Forms.{widthOf, sortOf}
+use Rattle.decimal.specs.Forms.{widthOf, shapeOf}
 use Rattle.decimal.specs.Scan.{written}
-use Rattle.decimal.specs.Grammar.{Good, blank as blanks, whole, fixed, expo, Says, well, badly}
+use Rattle.decimal.specs.Grammar.{Good, blank as blanks, whole, fixed, expo, Means, well, badly}
 use Rattle.decimal.specs.Grammar as grammar
 use Rattle.decimal.specs.declared.Form.{Form}
-use Rattle.decimal.specs.declared.Sort.{Sort}
+use Rattle.decimal.specs.declared.Shape.{Shape}
 use Rattle.decimal.specs.declared.Written.{Written}
 use Rattle.decimal.specs.declared.Written.the-variants.{Number, Blank, Bad}
 use Rattle.decimal.proofs.Answer.{says, reads, never}
@@ -71,7 +72,7 @@ refusal-number : (n p n′ p′ : ℕ) → refusal n p ≡ refusal n′ p′ →
 refusal-number n p n′ p′ q = let w = numbers-of q in cc
 
 -- all that is blank, and nothing else, is a blank field
-all-blank : {s : Sort} {bs : List ℕ} {r : Written} → Good s bs r → r ≡ Blank → bs ≡ replicate (length bs) 32
+all-blank : {s : Shape} {bs : List ℕ} {r : Written} → Good s bs r → r ≡ Blank → bs ≡ replicate (length bs) 32
 all-blank (blanks s n) e = ap (λ (i : ℕ). replicate i 32) (sym (length-replicate {A = ℕ} n 32))
 all-blank (whole w) e = cc
 all-blank (fixed w) e = cc
@@ -79,21 +80,21 @@ all-blank (expo w g ds n l) e = cc
 
 module _ (k : Form) (bs : List ℕ) where
   -- what was read, unless it is bad, is in the grammar
-  of-read : (r : Written) → written k bs ≡ r → (r ≡ Bad → ⊥) → grammar.Field k bs r
+  of-read : (r : Written) → written k bs ≡ r → (r ≡ Bad → ⊥) → grammar.WellWritten k bs r
   of-read r e n = go (written k bs) e (says k bs)
     where
-      go : (x : Written) → x ≡ r → Says k bs x → grammar.Field k bs r
-      go x q (well f) = subst (grammar.Field k bs) q f
+      go : (x : Written) → x ≡ r → Means k bs x → grammar.WellWritten k bs r
+      go x q (well f) = subst (grammar.WellWritten k bs) q f
       go x q (badly m) = absurd (n (sym q))
 
-  none-of : written k bs ≡ Bad → (r : Written) → grammar.Field k bs r → ⊥
+  none-of : written k bs ≡ Bad → (r : Written) → grammar.WellWritten k bs r → ⊥
   none-of e r f = never (f .1) (sym (reads k bs r f) ∙ e)
 
--- A field whose bytes are all there. `grammar.Field k bs r` says that the bytes bs are well written with the form k and say r.
+-- A field whose bytes are all there. `grammar.WellWritten k bs r` says that the bytes bs are well written with the form k and say r.
 pub record Named (b : List ℕ) (at : ℕ) (k : Form) : Type 0 where
-  pub value : (m e : ℤ) → (fieldAs (fieldAt b at k) ≡ valued m e) ↔ grammar.Field k (fieldBytes b at k) (Number m e)
+  pub value : (m e : ℤ) → (fieldAs (fieldAt b at k) ≡ valued m e) ↔ grammar.WellWritten k (fieldBytes b at k) (Number m e)
   pub blanked : (fieldAs (fieldAt b at k) ≡ bare blank) ↔ (fieldBytes b at k ≡ replicate (widthOf k) 32)
-  pub refused : (fieldAs (fieldAt b at k) ≡ refusal 6 at) ↔ ((r : Written) → grammar.Field k (fieldBytes b at k) r → ⊥)
+  pub refused : (fieldAs (fieldAt b at k) ≡ refusal 6 at) ↔ ((r : Written) → grammar.WellWritten k (fieldBytes b at k) r → ⊥)
   pub no-other : (n p : ℕ) → (n ≡ 6 → ⊥) → fieldAs (fieldAt b at k) ≡ refusal n p → ⊥
 
 module _ (b : List ℕ) (at : ℕ) (k : Form) (here : at + widthOf k ≤ length b) where
@@ -114,7 +115,8 @@ module _ (b : List ℕ) (at : ℕ) (k : Form) (here : at + widthOf k ≤ length 
           λ q.
               let f = of-read k (fieldBytes b at k) Blank (blank-of at _ (sym told ∙ q)) (λ z. let c : _≡_ {A = ℕ} 0 1 = cc in omega arith) in
               all-blank (f .1) refl ∙ ap (λ (i : ℕ). replicate i 32) bs-length,
-          λ e. told ∙ ap (λ (w : Written). fieldAs (fromWritten at w)) (reads k (fieldBytes b at k) Blank (bs-length, subst (λ (l : List ℕ). Good (sortOf k) l Blank) (sym e) (blanks (sortOf k) (widthOf k)))),
+          λ e. told ∙ ap (λ (w : Written). fieldAs (fromWritten at w))
+              (reads k (fieldBytes b at k) Blank (bs-length, subst (λ (l : List ℕ). Good (shapeOf k) l Blank) (sym e) (blanks (shapeOf k) (widthOf k)))),
         );
         refused = (
           λ q. none-of k (fieldBytes b at k) (bad-of at _ (sym told ∙ q)),
@@ -123,19 +125,21 @@ module _ (b : List ℕ) (at : ℕ) (k : Form) (here : at + widthOf k ≤ length 
         no-other = λ n p h q. other-of at (written k (fieldBytes b at k)) n p h (sym told ∙ q);
       }
     where
-      refused : ((r : Written) → grammar.Field k (fieldBytes b at k) r → ⊥) → written k (fieldBytes b at k) ≡ Bad
+      refused : ((r : Written) → grammar.WellWritten k (fieldBytes b at k) r → ⊥) → written k (fieldBytes b at k) ≡ Bad
       refused n = go (written k (fieldBytes b at k)) (says k (fieldBytes b at k))
         where
-          go : (x : Written) → Says k (fieldBytes b at k) x → x ≡ Bad
+          go : (x : Written) → Means k (fieldBytes b at k) x → x ≡ Bad
           go x (well f) = absurd (n x f)
           go x (badly m) = refl
 
--- `listed-named`: the field reader. 14 exactly where there is no such listed field; 2 exactly where there is one and the bytes end before it does; else it is named as above.
+-- `listed-named`: the field reader. 14 exactly where there is no such listed field; 2 exactly where there is one and the bytes end before it does; else it
+-- is named as above.
 pub record ListedNamed (b : List ℕ) (n : ℕ) : Type 0 where
   pub unlisted : (fieldAs (listedField b n) ≡ refusal 14 0) ↔ ((1 ≤ n) × (n ≤ 13) → ⊥)
   pub short : (fieldAs (listedField b n) ≡ refusal 2 0) ↔ ((1 ≤ n) × (n ≤ 13) × (length b < placeOf (listed (n - 1) .first) + widthOf (listed (n - 1) .form)))
   pub whole : (1 ≤ n) × (n ≤ 13) → placeOf (listed (n - 1) .first) + widthOf (listed (n - 1) .form) ≤ length b
-      → (listedField b n ≡ fieldAt b (placeOf (listed (n - 1) .first)) (listed (n - 1) .form)) × Named b (placeOf (listed (n - 1) .first)) (listed (n - 1) .form)
+      → (listedField b n ≡ fieldAt b (placeOf (listed (n - 1) .first)) (listed (n - 1) .form)) × Named b (placeOf (listed (n - 1) .first))
+      (listed (n - 1) .form)
 
 -- a field is short or whole: which refusals it can give
 module _ (b : List ℕ) (at : ℕ) (k : Form) where

@@ -4,7 +4,7 @@ use mathlib.Core.List.{List}
 use lib.Dec.{ltb}
 use lib.ListN.{length, take, drop}
 use Rattle.words.specs.Tests.{pick}
-use Rattle.words.specs.Answer.{Answer, valued, bare, blank, refusedAs}
+use Rattle.words.specs.Answer.{Answer, valued, bare, blank, refusedAs, refusalAt}
 use Rattle.decimal.specs.Forms.{widthOf}
 use Rattle.decimal.specs.Scan.{written}
 use Rattle.decimal.specs.declared.Form.{Form}
@@ -21,7 +21,7 @@ fieldAs (Refused r) = refusedAs r
 
 -- a refusal of a field: ordinal 0
 abbrev pub refuse : ℕ → ℕ → Field
-refuse n at = Refused (record { number = n; «record» = 0; place = at })
+refuse n at = Refused (refusalAt n at)
 
 -- badly written is refusal 6 at the field's first byte
 abbrev pub fromWritten : ℕ → Written → Field

@@ -27,11 +27,7 @@ pub struct Listed {
 fn refused(number: u64, place: u64) -> Field
     ensures { λ r. ⌜ r ≡ refuse number place ⌝ }
 {
-    Field::Refused(Refusal {
-        number,
-        record: 0,
-        place,
-    })
+    Field::Refused(words::at_place(number, place))
 }
 
 // Badly written is refusal 6 at the field's first byte.

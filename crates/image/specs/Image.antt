@@ -1,26 +1,93 @@
 -- The tests of an image's records, in document 01's order and with its byte numbers (from 1): fixed texts by position, then number fields by
--- position, then agreements; and a line's ("First records and what they promise"; 000, 002). Assumes nothing.
+-- position, then agreements; the plan's numbers that its descriptor names; and a line's tests ("First records and what they promise"; 000, 002). Assumes
+-- nothing.
 use Prim.Native.Nat.{ℕ, _+_, _*_}
-use mathlib.Core.List.{List, [], _∷_, _++_}
+use mathlib.Core.Path.{_≡_}
+use mathlib.Core.List.{List, [], _∷_, _++_, map}
 use lib.Dec.{eqb, leb}
+use lib.ListN.{getD}
 use Rattle.words.specs.Tests.{pick}
 use Rattle.words.specs.Words.{placeOf, fourAt}
-use Rattle.decimal.specs.Text.{bytes}
 use Rattle.decimal.specs.declared.Form.the-variants.{I4, I6, I8}
+use Rattle.fields.specs.declared.Field.{Field}
+use Rattle.plan.specs.Tables.{sortOf}
 use Rattle.plan.specs.Plan.{group, ahead}
-use Rattle.verdicts.specs.Tests.{Test, test, textTest}
-use Rattle.checks.specs.Parts.{numberAt, numbersTests, firstText}
+use Rattle.verdicts.specs.Tests.{Test, test, textTest, firstFault, neededOf}
+use Rattle.verdicts.specs.Numbers.{Number, number, at, numberAt, numbersTests, firstText}
+use Rattle.verdicts.specs.declared.Verdict.{Verdict}
+use Rattle.verdicts.specs.declared.Verdict.the-variants.{Fine, Fault}
+use Rattle.image.specs.declared.Described.{Described}
+use Rattle.image.specs.declared.Fills.{Fills}
+use Rattle.image.specs.declared.Numbers.{Numbers}
 
--- both line counts equal; d is a group for each pixel; what goes before, the data and the suffix fit L
-unfoldable pub agreements : List ℕ → List Test
-agreements r =
-    test (eqb (numberAt r 181 I6) (numberAt r 237 I8)) 8 0
-    ∷ test (eqb (numberAt r 281 I8) (group * numberAt r 249 I8)) 8 0
-    ∷ test (leb (ahead + numberAt r 281 I8 + numberAt r 289 I4) (numberAt r 187 I6)) 8 0
+-- the number fields of the descriptor, by position
+abbrev pub imageNumbers : List Number
+imageNumbers =
+    number 181 I6 1 999999
+    ∷ number 187 I6 1 999999
+    ∷ number 225 I4 group group
+    ∷ number 233 I4 1 1
+    ∷ number 237 I8 1 99999999
+    ∷ number 249 I8 1 99999999
+    ∷ number 281 I8 1 99999999
+    ∷ number 289 I4 0 9999
     ∷ []
 
+unfoldable pub imageRow : ℕ → Number
+imageRow i = getD imageNumbers i (number 0 I4 0 0)
+
+-- both line counts equal; d is a group for each pixel; what goes before, the data and the suffix fit L
+unfoldable pub agreeTests : ℕ → ℕ → ℕ → ℕ → ℕ → ℕ → List Test
+agreeTests n l lines w d s =
+    test (eqb n lines) 8 0
+    ∷ test (eqb d (group * w)) 8 0
+    ∷ test (leb (ahead + d + s) l) 8 0
+    ∷ []
+
+-- the same, of the numbers that the descriptor says
+abbrev pub agreements : List ℕ → List Test
+agreements r = agreeTests (numberAt r 181 I6) (numberAt r 187 I6) (numberAt r 237 I8) (numberAt r 249 I8) (numberAt r 281 I8) (numberAt r 289 I4)
+
+-- the fixed texts: every first record's, and the sort's at 429
+abbrev pub imageTexts : List ℕ → List Test
+imageTexts r = firstText r ∷ textTest r 429 (sortOf 0 .text) ∷ []
+
 unfoldable pub imageTests : List ℕ → List Test
-imageTests r = firstText r ∷ textTest r 429 (bytes "IU2 ") ∷ (numbersTests r 3 11 ++ agreements r)
+imageTests r = imageTexts r ++ (numbersTests r imageNumbers ++ agreements r)
+
+-- what is found in a descriptor: the plan's numbers that it names, or its first fault and zeros
+abbrev pub unnamed : Verdict → Described
+unnamed v = record { verdict = v; n = 0; l = 0; w = 0; d = 0; s = 0 }
+
+abbrev pub namedBy : Verdict → List ℕ → Described
+namedBy Fine r =
+    record {
+      verdict = Fine;
+      n = numberAt r 181 I6;
+      l = numberAt r 187 I6;
+      w = numberAt r 249 I8;
+      d = numberAt r 281 I8;
+      s = numberAt r 289 I4;
+    }
+namedBy (Fault m place) r = unnamed (Fault m place)
+
+unfoldable pub describedOf : List ℕ → Described
+describedOf r = namedBy (firstFault (imageTests r)) r
+
+-- the number fields as the code read them: the verdict on them, and where nothing is wrong, what they say
+abbrev pub numberField : List ℕ → Number → Field
+numberField r x = neededOf (at r (x .byte) (x .form)) (placeOf (x .byte)) (x .least) (x .most)
+
+abbrev pub rowNumber : List ℕ → Number → ℕ
+rowNumber r x = numberAt r (x .byte) (x .form)
+
+pub record Read (r : List ℕ) (x : Numbers) : Type 0 where
+  pub verdict : x .verdict ≡ firstFault (numbersTests r imageNumbers)
+  pub values : x .verdict ≡ Fine → x .values ≡ map (rowNumber r) imageNumbers
+
+-- a line's left fill, data and right fill counts
+abbrev pub fillsOf : List ℕ → Fills
+fillsOf r = record { left = fourAt r (placeOf 21); «data» = fourAt r (placeOf 25); right = fourAt r (placeOf 29) }
 
 -- a line of an image of w pixels: line number, index 1, and fills whose ordinary sum is w
 unfoldable pub lineTests : ℕ → ℕ → List ℕ → List Test

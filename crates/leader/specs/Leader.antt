@@ -1,9 +1,10 @@
 -- The tests of a leader's records, in document 01's order and with its byte numbers (from 1), and the plan's numbers that its descriptor names
 -- ("First records and what they promise"; 000). Assumes nothing.
 use Prim.Native.Nat.{ℕ, _+_}
+use mathlib.Core.Path.{_≡_}
 use mathlib.Core.List.{List, [], _∷_, _++_, map}
-use lib.Dec.{eqb}
-use lib.ListN.{getD}
+use lib.Dec.{eqb, ltb}
+use lib.ListN.{getD, set, replicate}
 use lib.Seq.{slice}
 use Rattle.words.specs.Tests.{pick}
 use Rattle.words.specs.Words.{placeOf}
@@ -11,13 +12,17 @@ use Rattle.decimal.specs.declared.Form.{Form}
 use Rattle.decimal.specs.declared.Form.the-variants.{I4, I6, I8}
 use Rattle.fields.specs.Listed.{table}
 use Rattle.fields.specs.declared.Listed.{Listed}
-use Rattle.plan.specs.Tables.{slotOf}
+use Rattle.plan.specs.Tables.{rows, slotOf}
 use Rattle.plan.specs.declared.Slot.{Slot}
-use Rattle.verdicts.specs.Tests.{Test, each, numberTests, countTests, readableTest}
-use Rattle.checks.specs.Parts.{at, numberAt, firstText}
+use Rattle.verdicts.specs.Tests.{Test, firstFault, each, numberTests, countTests, readableTest}
+use Rattle.verdicts.specs.Numbers.{at, numberAt, firstText}
+use Rattle.verdicts.specs.declared.Verdict.{Verdict}
+use Rattle.verdicts.specs.declared.Verdict.the-variants.{Fine, Fault}
 use Rattle.leader.specs.declared.Pair.{Pair}
+use Rattle.leader.specs.declared.Held.{Held}
+use Rattle.leader.specs.declared.Described.{Described}
 
--- ---- the pairs of count and length, by position: first byte, the length's form, the slot's row (17: not admitted)
+-- ---- the pairs of count and length, by position: first byte, the length's form, the row of the plan (`rows`: not admitted)
 
 abbrev pub pair : ℕ → Form → ℕ → Pair
 pair byte k row = record { byte = byte; form = k; row = row }
@@ -30,16 +35,16 @@ pairs =
     ∷ pair 205 I6 2
     ∷ pair 217 I6 3
     ∷ pair 229 I6 4
-    ∷ pair 241 I6 17
+    ∷ pair 241 I6 rows
     ∷ pair 253 I6 5
-    ∷ pair 265 I6 17
-    ∷ pair 277 I6 17
-    ∷ pair 289 I6 17
-    ∷ pair 301 I6 17
-    ∷ pair 313 I6 17
-    ∷ pair 325 I6 17
-    ∷ pair 337 I6 17
-    ∷ pair 349 I6 17
+    ∷ pair 265 I6 rows
+    ∷ pair 277 I6 rows
+    ∷ pair 289 I6 rows
+    ∷ pair 301 I6 rows
+    ∷ pair 313 I6 rows
+    ∷ pair 325 I6 rows
+    ∷ pair 337 I6 rows
+    ∷ pair 349 I6 rows
     ∷ pair 421 I8 6
     ∷ pair 435 I8 7
     ∷ pair 449 I8 8
@@ -56,7 +61,11 @@ pairs =
 unfoldable pub pairRow : ℕ → Pair
 pairRow i = getD pairs i (pair 0 I4 0)
 
--- which pair each row of the slots is
+-- the row of the plan for slot i + 1
+abbrev pub slotRow : ℕ → ℕ
+slotRow i = pick (ltb i 5) i (pick (eqb i 6) 5 rows)
+
+-- which pair each row of the plan is
 abbrev pub admitted : List ℕ
 admitted = 0 ∷ 1 ∷ 2 ∷ 3 ∷ 4 ∷ 6 ∷ 15 ∷ 16 ∷ 17 ∷ 18 ∷ 19 ∷ 20 ∷ 21 ∷ 22 ∷ 23 ∷ 24 ∷ 25 ∷ []
 
@@ -104,3 +113,30 @@ countsOf r = map (λ j. countAt r (pairRow j)) admitted
 
 unfoldable pub lengthsOf : List ℕ → List ℕ
 lengthsOf r = map (λ j. lengthAt r (pairRow j)) admitted
+
+-- what is found in a descriptor: the plan's counts and lengths, or its first fault and zeros
+abbrev pub unnamed : Verdict → Described
+unnamed v = record { verdict = v; counts = replicate rows 0; lengths = replicate rows 0 }
+
+abbrev pub namedBy : Verdict → List ℕ → Described
+namedBy Fine r = record { verdict = Fine; counts = countsOf r; lengths = lengthsOf r }
+namedBy (Fault n place) r = unnamed (Fault n place)
+
+unfoldable pub describedOf : List ℕ → Described
+describedOf r = namedBy (firstFault (leaderTests r)) r
+
+-- ---- how the code reads the pairs
+
+-- a row of the plan takes a number; behind the last row there is nothing to take it
+abbrev pub putAt : List ℕ → ℕ → ℕ → List ℕ
+putAt a row v = pick (ltb row rows) (set a row v) a
+
+-- a pair as it was read: the verdict on it, and where nothing is wrong, its count and length
+pub record PairRead (r : List ℕ) (x : Pair) (y : Held) : Type 0 where
+  pub verdict : y .verdict ≡ firstFault (pairTests r x)
+  pub count : y .verdict ≡ Fine → y .count ≡ countAt r x
+  pub length : y .verdict ≡ Fine → y .length ≡ lengthAt r x
+
+-- all of them: the first fault, or the plan's counts and lengths
+pub record PairsRead (r : List ℕ) (x : Described) : Type 0 where
+  pub is : x ≡ namedBy (firstFault (each (pairTests r) pairs)) r

@@ -1,247 +1,163 @@
 // The leader's records (document 01, "First records and what they promise"): its descriptor of fifteen
-// slot pairs and eleven facility pairs, the listed fields of the summary and map records, and the counts
-// and lengths that the descriptor puts into the plan. Places are in the record, from 0.
+// slot pairs and eleven facility pairs, with the counts and lengths that it puts into the plan, each read
+// once; and the listed fields of the summary and map records. Places are in the record, from 0.
 use decimal::Form;
+use fields::Field;
 use verdicts::Verdict;
 ghost use mathlib.Core.Path.{_≡_};
 ghost use Prim.Native.Nat.{_<_, _≤_};
-ghost use Rattle.verdicts.specs.Tests.{firstFault, each};
-ghost use Rattle.leader.specs.Leader.{pairs, pairRow, admittedPair, countAt, lengthAt, pairTests, leaderTests, fieldsTests, leaderRecord};
-ghost use Rattle.leader.specs.Leader.{countsOf, lengthsOf};
+ghost use Rattle.verdicts.specs.Tests.{firstFault};
+ghost use Rattle.leader.specs.Leader.{slotRow, pairRow, putAt, PairRead, PairsRead, unnamed, describedOf, fieldsTests, leaderRecord};
 
-// A pair of count and length in the leader's descriptor: first byte, the length's form, and the
-// slot's row in the plan (17 where the slot is not admitted).
+// A pair of count and length in the leader's descriptor: first byte, the length's form, and the row of
+// the plan that takes its numbers (`plan::ROWS` where the slot is not admitted).
 pub struct Pair {
     pub byte: usize,
     pub form: Form,
-    pub row: u64,
+    pub row: usize,
 }
 
-// Slots 1 to 15, then the eleven facility pairs, by position. Slots 6 and 8 to 15 are not admitted.
-const PAIRS: [Pair; 26] = [
-    Pair {
-        byte: 181,
-        form: Form::I6,
-        row: 0,
-    },
-    Pair {
-        byte: 193,
-        form: Form::I6,
-        row: 1,
-    },
-    Pair {
-        byte: 205,
-        form: Form::I6,
-        row: 2,
-    },
-    Pair {
-        byte: 217,
-        form: Form::I6,
-        row: 3,
-    },
-    Pair {
-        byte: 229,
-        form: Form::I6,
-        row: 4,
-    },
-    Pair {
-        byte: 241,
-        form: Form::I6,
-        row: 17,
-    },
-    Pair {
-        byte: 253,
-        form: Form::I6,
-        row: 5,
-    },
-    Pair {
-        byte: 265,
-        form: Form::I6,
-        row: 17,
-    },
-    Pair {
-        byte: 277,
-        form: Form::I6,
-        row: 17,
-    },
-    Pair {
-        byte: 289,
-        form: Form::I6,
-        row: 17,
-    },
-    Pair {
-        byte: 301,
-        form: Form::I6,
-        row: 17,
-    },
-    Pair {
-        byte: 313,
-        form: Form::I6,
-        row: 17,
-    },
-    Pair {
-        byte: 325,
-        form: Form::I6,
-        row: 17,
-    },
-    Pair {
-        byte: 337,
-        form: Form::I6,
-        row: 17,
-    },
-    Pair {
-        byte: 349,
-        form: Form::I6,
-        row: 17,
-    },
-    Pair {
-        byte: 421,
-        form: Form::I8,
-        row: 6,
-    },
-    Pair {
-        byte: 435,
-        form: Form::I8,
-        row: 7,
-    },
-    Pair {
-        byte: 449,
-        form: Form::I8,
-        row: 8,
-    },
-    Pair {
-        byte: 463,
-        form: Form::I8,
-        row: 9,
-    },
-    Pair {
-        byte: 477,
-        form: Form::I8,
-        row: 10,
-    },
-    Pair {
-        byte: 491,
-        form: Form::I8,
-        row: 11,
-    },
-    Pair {
-        byte: 505,
-        form: Form::I8,
-        row: 12,
-    },
-    Pair {
-        byte: 519,
-        form: Form::I8,
-        row: 13,
-    },
-    Pair {
-        byte: 533,
-        form: Form::I8,
-        row: 14,
-    },
-    Pair {
-        byte: 547,
-        form: Form::I8,
-        row: 15,
-    },
-    Pair {
-        byte: 561,
-        form: Form::I8,
-        row: 16,
-    },
-];
+// What was found in a descriptor: nothing wrong, and the plan's counts and lengths; or its first fault,
+// and zeros.
+pub struct Described {
+    pub verdict: Verdict,
+    pub counts: [u64; plan::ROWS],
+    pub lengths: [u64; plan::ROWS],
+}
 
-// Which pair each row of the plan is: slots 1, 2, 3, 4, 5, 7, and the facility pairs.
-const ADMITTED: [usize; 17] = [0, 1, 2, 3, 4, 6, 15, 16, 17, 18, 19, 20, 21, 22, 23, 24, 25];
+// What was found in a pair: its count and length, or its first fault and zeros.
+struct Held {
+    verdict: Verdict,
+    count: u64,
+    length: u64,
+}
 
+// The row of the plan for slot i + 1. Slots 6 and 8 to 15 are not admitted.
+fn slot_row(i: usize) -> usize
+    ensures { λ r. ⌜ r ≡ slotRow i ⌝ }
+{
+    if i < 5 {
+        return i;
+    }
+    if i == 6 {
+        return 5;
+    }
+    plan::ROWS
+}
+
+// Pair i of the descriptor, from 0, by position: slots 1 to 15 from byte 181 on, 12 bytes each, then the
+// eleven facility pairs from byte 421 on, 14 bytes each.
 fn pair_row(i: usize) -> Pair
     requires { ⌜ i < 26 ⌝ }
     ensures { λ r. ⌜ r ≡ pairRow i ⌝ }
+    ensures { λ r. ⌜ r .byte ≤ 1000 ⌝ }
 {
-    PAIRS[i]
-}
-
-fn admitted_pair(i: usize) -> usize
-    requires { ⌜ i < 17 ⌝ }
-    ensures { λ r. ⌜ r ≡ admittedPair i ⌝ }
-    ensures { λ r. ⌜ r < 26 ⌝ }
-{
-    ADMITTED[i]
-}
-
-// A pair's count; an all-blank count is 0.
-fn count_at(r: &[u8], x: Pair) -> u64
-    ensures { λ n. ⌜ n ≡ countAt (now (r .entry)) x ⌝ }
-{
-    checks::number_at(r, x.byte, Form::I6)
-}
-
-// A pair's length, which is not read where the count is 0.
-fn length_at(r: &[u8], x: Pair) -> u64
-    requires { ⌜ x .byte ≤ 1000 ⌝ }
-    ensures { λ n. ⌜ n ≡ lengthAt (now (r .entry)) x ⌝ }
-{
-    if count_at(r, x) == 0 {
-        return 0;
+    if i < 15 {
+        return Pair {
+            byte: 181 + 12 * i,
+            form: Form::I6,
+            row: slot_row(i),
+        };
     }
-    let form = x.form;
-    checks::number_at(r, x.byte + 6, form)
+    Pair {
+        byte: 421 + 14 * (i - 15),
+        form: Form::I8,
+        row: i - 9,
+    }
 }
 
-// A pair under its slot's ranges: the count, then, where that is not 0, the length.
-fn pair_verdict(r: &[u8], x: Pair) -> Verdict
-    requires { ⌜ x .byte ≤ 1000 ⌝ }
-    ensures { λ v. ⌜ v ≡ firstFault (pairTests (now (r .entry)) x) ⌝ }
+// A pair that is wrong.
+fn faulty(verdict: Verdict) -> Held
+    ensures { λ x. ⌜ x ≡ record { verdict = verdict; count = 0; length = 0 } ⌝ }
 {
-    let slot = plan::slot_at(x.row);
+    Held {
+        verdict,
+        count: 0,
+        length: 0,
+    }
+}
+
+// A pair under its slot's ranges: the count, where blank is 0; then, where that is not 0, the length.
+fn read_pair(r: &[u8], x: Pair) -> Held
+    requires { ⌜ x .byte ≤ 1000 ⌝ }
+    ensures { λ y. ⌜ PairRead (now (r .entry)) x y ⌝ }
+{
+    let slot = plan::slot_at(x.row as u64);
     let byte = x.byte;
-    let place = words::place(byte) as u64;
-    let v = verdicts::counted(
-        checks::field(r, byte, Form::I6),
-        place,
-        slot.least,
-        slot.most,
-    );
-    let Verdict::Fine = v else {
-        return v;
+    let f = verdicts::count(r, byte, slot.least, slot.most);
+    let Field::Value(c, _) = f else {
+        return faulty(verdicts::fault(f));
     };
-    if count_at(r, x) == 0 {
-        return Verdict::Fine;
+    let count = verdicts::whole(c);
+    if count == 0 {
+        return faulty(Verdict::Fine);
     }
     let form = x.form;
-    let behind = byte + 6;
-    let length = checks::field(r, behind, form);
-    verdicts::needed(
-        length,
-        words::place(behind) as u64,
-        slot.shortest,
-        slot.longest,
-    )
+    let g = verdicts::number(r, byte + 6, form, slot.shortest, slot.longest);
+    let Field::Value(l, _) = g else {
+        return faulty(verdicts::fault(g));
+    };
+    Held {
+        verdict: Verdict::Fine,
+        count,
+        length: verdicts::whole(l),
+    }
+}
+
+// The plan's row takes a number; a pair that is not admitted has none.
+fn put(a: &mut [u64; plan::ROWS], row: usize, v: u64)
+    ensures { λ _. ⌜ now (a .exit) ≡ putAt (now (a .entry)) row v ⌝ }
+{
+    if row < plan::ROWS {
+        a[row] = v;
+    }
+}
+
+// A descriptor that names nothing, since something is wrong with it.
+fn unnamed(verdict: Verdict) -> Described
+    ensures { λ x. ⌜ x ≡ unnamed verdict ⌝ }
+{
+    Described {
+        verdict,
+        counts: [0u64; plan::ROWS],
+        lengths: [0u64; plan::ROWS],
+    }
 }
 
 // The pairs, by position.
-fn pairs_verdict(r: &[u8]) -> Verdict
-    ensures { λ v. ⌜ v ≡ firstFault (each (pairTests (now (r .entry))) pairs) ⌝ }
+fn read_pairs(r: &[u8]) -> Described
+    ensures { λ x. ⌜ PairsRead (now (r .entry)) x ⌝ }
 {
-    let mut i = 0;
+    let mut counts = [0u64; plan::ROWS];
+    let mut lengths = [0u64; plan::ROWS];
+    let mut i: usize = 0;
     while i < 26 {
-        let v = pair_verdict(r, pair_row(i));
+        let x = pair_row(i);
+        let y = read_pair(r, x);
+        let v = y.verdict;
         let Verdict::Fine = v else {
-            return v;
+            return unnamed(v);
         };
+        put(&mut counts, x.row, y.count);
+        put(&mut lengths, x.row, y.length);
         i += 1;
     }
-    Verdict::Fine
+    Described {
+        verdict: Verdict::Fine,
+        counts,
+        lengths,
+    }
 }
 
-fn descriptor(r: &[u8]) -> Verdict
-    ensures { λ v. ⌜ v ≡ firstFault (leaderTests (now (r .entry))) ⌝ }
+// The descriptor: its text, then the pairs; and the counts and lengths that it names for the plan.
+pub fn descriptor(r: &[u8]) -> Described
+    ensures { λ x. ⌜ x ≡ describedOf (now (r .entry)) ⌝ }
 {
-    let v = checks::first_text(r);
+    let v = verdicts::first_text(r);
     let Verdict::Fine = v else {
-        return v;
+        return unnamed(v);
     };
-    pairs_verdict(r)
+    read_pairs(r)
 }
 
 // The listed fields from one to before another: each a value or blank.
@@ -254,7 +170,7 @@ fn listed(r: &[u8], from: usize, to: usize) -> Verdict
         let row = fields::listed_row(i);
         let form = row.form;
         let byte = row.first;
-        let v = verdicts::readable(checks::field(r, byte, form), words::place(byte) as u64);
+        let v = verdicts::fault(verdicts::field(r, byte, form));
         let Verdict::Fine = v else {
             return v;
         };
@@ -263,13 +179,11 @@ fn listed(r: &[u8], from: usize, to: usize) -> Verdict
     Verdict::Fine
 }
 
-// A record of a leader: the descriptor, a summary, a map record, or one whose bytes are free.
+// A record behind the descriptor: a summary, a map record, or one whose bytes are free.
 pub fn record(run: u64, r: &[u8]) -> Verdict
+    requires { ⌜ (run ≡ 0 → ⊥) ⌝ }
     ensures { λ v. ⌜ v ≡ firstFault (leaderRecord run (now (r .entry))) ⌝ }
 {
-    if run == 0 {
-        return descriptor(r);
-    }
     if run == 1 {
         return listed(r, 0, 10);
     }
@@ -277,29 +191,4 @@ pub fn record(run: u64, r: &[u8]) -> Verdict
         return listed(r, 10, 13);
     }
     Verdict::Fine
-}
-
-// The plan's counts, and its lengths.
-pub fn counts(r: &[u8]) -> [u64; 17]
-    ensures { λ a. ⌜ a ≡ countsOf (now (r .entry)) ⌝ }
-{
-    let mut a = [0u64; 17];
-    let mut i: usize = 0;
-    while i < 17 {
-        a[i] = count_at(r, pair_row(admitted_pair(i)));
-        i += 1;
-    }
-    a
-}
-
-pub fn lengths(r: &[u8]) -> [u64; 17]
-    ensures { λ a. ⌜ a ≡ lengthsOf (now (r .entry)) ⌝ }
-{
-    let mut a = [0u64; 17];
-    let mut i: usize = 0;
-    while i < 17 {
-        a[i] = length_at(r, pair_row(admitted_pair(i)));
-        i += 1;
-    }
-    a
 }

@@ -1,4 +1,5 @@
--- A shown line's data pixels lie inside its record, which is held whole: the fills add up to w, d is a sample's bytes times w, and d and s fit L. Over the sample size.
+-- A shown line's data pixels lie inside its record, which is held whole: the fills add up to w, d is a sample's bytes times w, and d and s fit L. Over the
+-- sample size.
 use Prim.Native.Nat.{ℕ, zero, suc, _+_, _-_, _*_, _≤_}
 use mathlib.Core.Path.{_≡_, refl, sym, ap, _∙_, subst}
 use mathlib.Core.List.{List}
@@ -8,10 +9,10 @@ use lib.ListN.{length}
 use borrow.Author.Tests.{eqb-true}
 use Rattle.words.specs.Words.{fourAt, placeOf}
 use Rattle.words.proofs.Laws.{within-true}
-use Rattle.plan.specs.Plan.{image, group, spotOf, codesOf}
+use Rattle.plan.specs.Plan.{image, group, dueOf, lineCodes}
 use Rattle.plan.specs.declared.Plan.{Plan}
-use Rattle.plan.proofs.CodeLaws.{line-spot}
-use Rattle.plan.specs.declared.Spot.{Spot}
+use Rattle.plan.proofs.CodeLaws.{line-due}
+use Rattle.plan.specs.declared.Due.{Due}
 use Rattle.verdicts.specs.Tests.{firstFault, andThen}
 use Rattle.image.specs.Image.{lineTests, imageRecord}
 use Rattle.bodies.specs.Bodies.{bodyTests, bodyOf}
@@ -19,7 +20,7 @@ use Rattle.verdicts.specs.declared.Verdict.{Verdict}
 use Rattle.verdicts.specs.declared.Verdict.the-variants.{Fine, Fault}
 use Rattle.verdicts.proofs.Holding.{fine-holds}
 use Rattle.headers.specs.Header.{headerOf}
-use Rattle.turns.proofs.TurnLaws.{not-fine}
+use Rattle.verdicts.proofs.TestLaws.{not-fine}
 use Rattle.lines.specs.View.{leftOf, dataOf, pixelsFrom, foundIn, recordAt, lineOf, firstOf, viewOf}
 use Rattle.lines.specs.declared.View.the-variants.{Shown}
 use Rattle.lines.proofs.LinedLaws.{lined}
@@ -35,14 +36,14 @@ data-fits g p left count right e h f =
 -- header and body, apart and together
 then-fine : (h t : Verdict) → andThen h t ≡ Fine → (h ≡ Fine) × (t ≡ Fine)
 then-fine Fine t e = (refl, e)
-then-fine (Fault n at) t e = absurd (not-fine {n = n} {a = at} refl e)
+then-fine (Fault n at) t e = absurd (not-fine {n = n} {at = at} refl e)
 
-pub found-parts : (p : Plan) (k : ℕ) (s : Spot) (r : List ℕ) → foundIn p k s r ≡ Fine
-    → (headerOf (k + 1) (codesOf image (s .run)) (s .length) r ≡ Fine) × (bodyOf image (s .run) p k r ≡ Fine)
+pub found-parts : (p : Plan) (k : ℕ) (s : Due) (r : List ℕ) → foundIn p k s r ≡ Fine
+    → (headerOf (s .ordinal) (s .codes) (s .length) r ≡ Fine) × (bodyOf image (s .run) p k r ≡ Fine)
 unfolding foundIn
-found-parts p k s r e = then-fine (headerOf (k + 1) (codesOf image (s .run)) (s .length) r) (bodyOf image (s .run) p k r) e
+found-parts p k s r e = then-fine (headerOf (s .ordinal) (s .codes) (s .length) r) (bodyOf image (s .run) p k r) e
 
-pub parts-found : (p : Plan) (k : ℕ) (s : Spot) (r : List ℕ) → headerOf (k + 1) (codesOf image (s .run)) (s .length) r ≡ Fine → bodyOf image (s .run) p k r ≡ Fine
+pub parts-found : (p : Plan) (k : ℕ) (s : Due) (r : List ℕ) → headerOf (s .ordinal) (s .codes) (s .length) r ≡ Fine → bodyOf image (s .run) p k r ≡ Fine
     → foundIn p k s r ≡ Fine
 unfolding foundIn
 parts-found p k s r a b = ap (λ (v : Verdict). andThen v (bodyOf image (s .run) p k r)) a ∙ b
@@ -58,18 +59,20 @@ line-fills p k r e = eqb-true _ _ (fine-holds (lineTests (p .w) k r) (sym (line-
 
 -- of a line that is shown under a plan whose pixels, of g bytes each, fill d: its data pixels end within the bytes held
 module _ (g : ℕ) (p : Plan) (paired : p .d ≡ g * p .w) (room : p .d + p .s ≤ p .l) where
-  seen-within : (k : ℕ) (bs : List ℕ) (start count left : ℕ) → Seen g p k (spotOf image p k) bs start count left → start + g * count ≤ length bs
+  seen-within : (k : ℕ) (bs : List ℕ) (start count left : ℕ) → Seen g p k (dueOf image p k) bs start count left → start + g * count ≤ length bs
   seen-within zero bs start count left q = absurd (let h = within-true 1 0 (p .n) (q .inside) in omega arith)
   seen-within (suc k) bs start count left q =
       let h = within-true 1 (suc k) (p .n) (q .inside) in
-      let e = line-spot p k (omega arith) in
-      go (spotOf image p (suc k)) e q
+      let e = line-due p k (omega arith) in
+      go (dueOf image p (suc k)) e q
     where
-      go : (s : Spot) → s ≡ record { run = 1; length = p .l; start = 720 + k * p .l } → Seen g p (suc k) s bs start count left → start + g * count ≤ length bs
+      go : (s : Due) → s ≡ record { ordinal = suc k + 1; run = 1; codes = lineCodes 0; length = p .l; start = 720 + k * p .l } → Seen g p
+          (suc k) s bs start count left → start + g * count ≤ length bs
       go s e q =
           let r = recordAt s bs in
-          let b : bodyOf image 1 p (suc k) r ≡ Fine = subst (λ (i : ℕ). bodyOf image i p (suc k) r ≡ Fine) (ap (λ (x : Spot). x .run) e) (found-parts p (suc k) s r (q .fine) .1) in
-          let l : s .length ≡ p .l = ap (λ (x : Spot). x .length) e in
+          let b : bodyOf image 1 p (suc k) r ≡ Fine = subst (λ (i : ℕ). bodyOf image i p (suc k) r ≡ Fine) (ap (λ (x : Due). x .run) e)
+          (found-parts p (suc k) s r (q .fine) .1) in
+          let l : s .length ≡ p .l = ap (λ (x : Due). x .length) e in
           let c : g * count ≡ g * dataOf r = ap (λ (n : ℕ). g * n) (q .counts) in
           omega (arith, data-fits g p (leftOf r) (dataOf r) (fourAt r (placeOf 29)) paired room (line-fills p (suc k) r b), q .whole, q .starts)
 

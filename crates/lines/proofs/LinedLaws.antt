@@ -12,7 +12,7 @@ use Rattle.words.proofs.Laws.{both-l, both-r, cases}
 use Rattle.plan.specs.Plan.{image, group, ahead, slotsZero?, imageZero?, zeroPlan?, planGood, runCounts, runLengths, Small}
 use Rattle.plan.specs.declared.Plan.{Plan}
 use Rattle.plan.proofs.GoodLaws.{image-agrees}
-use Rattle.walk.specs.Rule.{fresh, goodState}
+use Rattle.walk.specs.State.{fresh, goodState}
 use Rattle.walk.specs.declared.State.{State}
 use Rattle.walk.proofs.GoodLaws.{good-zero, good-later, ready, fresh-good}
 use Rattle.walk.proofs.KeptLaws.{good-kept, kind-kept}
@@ -34,10 +34,12 @@ pub lined-good : (st : State) → goodState st ≡ true → st .kind ≡ image �
 lined-good st g k =
     made (st .plan) (subst (λ (i : ℕ). Small (runCounts i (st .plan)) (runLengths i (st .plan))) k (ready st g .small))
     (λ h. ⊎-elim
-    (λ z. absurd (let e = no-lines (st .plan) (both-r (withinOf 1 (st .kind) 4) (zeroPlan? (st .plan)) (sym (good-zero st (eqb-true (st .passed) 0 z)) ∙ g)) in omega arith))
+    (λ z. absurd (let e = no-lines (st .plan) (both-r (withinOf 1 (st .kind) 4) (zeroPlan? (st .plan)) (sym (good-zero st (eqb-true (st .passed) 0 z))
+    ∙ g)) in omega arith))
     (λ z. image-agrees (st .plan) (subst (λ (i : ℕ). planGood i (st .plan) ≡ true) k (good-later st g (eqb-false (st .passed) 0 z) .0)))
     (cases (eqb (st .passed) 0)))
 
 -- the plan behind the first record
 pub lined : (bs : List ℕ) → Lined group (firstOf bs .state .plan)
-lined bs = lined-good (firstOf bs .state) (good-kept 1 (fresh image) bs false (fresh-good image (omega arith) (omega arith))) (kind-kept 1 (fresh image) bs false)
+lined bs = lined-good (firstOf bs .state) (good-kept 1 (fresh image) bs false (fresh-good image (omega arith) (omega arith)))
+    (kind-kept 1 (fresh image) bs false)

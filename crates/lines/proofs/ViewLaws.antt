@@ -11,17 +11,18 @@ use types.Run.{OneOf}
 use denote.Enum.Declared.{tagOf}
 use borrow.Author.Tests.{lt-ltb, le-ltb, ltb-false}
 use Rattle.words.specs.Tests.{pick, withinOf}
+use Rattle.words.specs.Answer.{bareRefusal}
 use Rattle.words.specs.declared.Refusal.{Refusal}
-use Rattle.plan.specs.Plan.{image, spotOf, codesOf}
+use Rattle.plan.specs.Plan.{image, dueOf}
 use Rattle.plan.specs.declared.Plan.{Plan}
-use Rattle.plan.specs.declared.Spot.{Spot}
+use Rattle.plan.specs.declared.Due.{Due}
 use Rattle.verdicts.specs.Tests.{andThen}
 use Rattle.bodies.specs.Bodies.{bodyOf}
 use Rattle.verdicts.specs.declared.Verdict.{Verdict}
 use Rattle.verdicts.specs.declared.Verdict.the-variants.{Fine, Fault}
 use Rattle.headers.specs.Header.{headerOf}
 use Rattle.turns.specs.Turn.{Near}
-use Rattle.walk.specs.Turn.{walkOf, beginOf}
+use Rattle.walk.specs.Walk.{walkOf, beginOf}
 use Rattle.walk.specs.declared.Begun.{Begun}
 use Rattle.walk.specs.declared.Walked.{Walked}
 use Rattle.turns.specs.declared.Stop.{Stop}
@@ -29,7 +30,8 @@ use Rattle.turns.specs.declared.Stop.the-variants.{Wait as Wait′, Pause, Comp
 use Rattle.turns.proofs.Stop.{the-type}
 use Rattle.walk.proofs.BegunLaws.{begun-walks}
 use Rattle.turns.proofs.FaultLaws.{header-near, body-near}
-use Rattle.lines.specs.View.{leftOf, dataOf, pixelsFrom, shownOf, onVerdict, bareRefusal, foundIn, recordAt, lineAt, lineOf, behindFirst, firstOf, viewOf, shownBytes, pixelsOf}
+use Rattle.lines.specs.View.{leftOf, dataOf, pixelsFrom, shownOf, onVerdict, foundIn, recordAt, lineAt, lineOf, behindFirst, firstOf, viewOf}
+use Rattle.lines.specs.View.{shownBytes, pixelsOf}
 use Rattle.lines.proofs.View.{the-type as view-type}
 use Rattle.lines.specs.declared.View.{View}
 use Rattle.lines.specs.declared.View.the-variants.{Shown, Wait, Refused}
@@ -44,32 +46,32 @@ near-then : (h t : Verdict) → Near h → Near t → Near (andThen h t)
 near-then Fine t a b = b
 near-then (Fault m at) t a b = a
 
-pub found-near : (p : Plan) (k : ℕ) (s : Spot) (r : List ℕ) → Near (foundIn p k s r)
+pub found-near : (p : Plan) (k : ℕ) (s : Due) (r : List ℕ) → Near (foundIn p k s r)
 unfolding foundIn
 found-near p k s r =
-    near-then (headerOf (k + 1) (codesOf image (s .run)) (s .length) r) (bodyOf image (s .run) p k r) (header-near (k + 1) (codesOf image (s .run)) (s .length) r)
+    near-then (headerOf (s .ordinal) (s .codes) (s .length) r) (bodyOf image (s .run) p k r) (header-near (s .ordinal) (s .codes) (s .length) r)
     (body-near image (s .run) p k r)
 
--- ---- the line at a spot
+-- ---- the line whose record is due there
 
 -- what the code hands on as `&bytes[from..to]`
 pub part-is : (from long : ℕ) (bs : List ℕ) → take (from + long - from) (drop from bs) ≡ take long (drop from bs)
 part-is from long bs = ap (λ (n : ℕ). take n (drop from bs)) (let e : from + long - from ≡ long = omega arith in e)
 
-module _ (g : ℕ) (p : Plan) (k : ℕ) (s : Spot) (bs : List ℕ) where
+module _ (g : ℕ) (p : Plan) (k : ℕ) (s : Due) (bs : List ℕ) where
   pub at-short : length bs < s .start + s .length → lineAt g p k s bs ≡ Wait (s .start + s .length - length bs)
   unfolding lineAt
   at-short h = simp (lt-ltb _ _ h)
 
   pub at-whole : s .start + s .length ≤ length bs
-      → lineAt g p k s bs ≡ onVerdict (foundIn p k s (recordAt s bs)) (k + 1) (s .start) (shownOf g p (s .start) (recordAt s bs))
+      → lineAt g p k s bs ≡ onVerdict (foundIn p k s (recordAt s bs)) (s .ordinal) (s .start) (shownOf g p (s .start) (recordAt s bs))
   unfolding lineAt
   at-whole h = simp (le-ltb _ _ h)
 
 -- ---- the line under a plan
 
 module _ (g : ℕ) (p : Plan) (k : ℕ) (bs : List ℕ) where
-  pub line-in : withinOf 1 k (p .n) ≡ true → lineOf g p k bs ≡ lineAt g p k (spotOf image p k) bs
+  pub line-in : withinOf 1 k (p .n) ≡ true → lineOf g p k bs ≡ lineAt g p k (dueOf image p k) bs
   unfolding lineOf
   line-in e = simp e
 
@@ -107,7 +109,7 @@ module _ (bs : List ℕ) (b : Begun) (w : Walked) (begins : b ≡ beginOf image)
 -- ---- and back: a line that is shown
 
 -- each test of a line that is shown
-pub record Seen (g : ℕ) (p : Plan) (k : ℕ) (s : Spot) (bs : List ℕ) (start count left : ℕ) : Type 0 where
+pub record Seen (g : ℕ) (p : Plan) (k : ℕ) (s : Due) (bs : List ℕ) (start count left : ℕ) : Type 0 where
   pub inside : withinOf 1 k (p .n) ≡ true
   pub whole : s .start + s .length ≤ length bs
   pub fine : foundIn p k s (recordAt s bs) ≡ Fine
@@ -137,36 +139,39 @@ fill (Wait n) = 0
 fill (Refused r) = 0
 
 module _ (g : ℕ) (p : Plan) (k : ℕ) (bs : List ℕ) (start count left : ℕ) where
-  pub line-seen : lineOf g p k bs ≡ Shown start count left → Seen g p k (spotOf image p k) bs start count left
+  pub line-seen : lineOf g p k bs ≡ Shown start count left → Seen g p k (dueOf image p k) bs start count left
   unfolding lineOf lineAt shownOf place number fill
-  line-seen e = go (withinOf 1 k (p .n)) refl (ltb (length bs) (spotOf image p k .start + spotOf image p k .length)) refl (foundIn p k (spotOf image p k) (recordAt (spotOf image p k) bs)) refl e
+  line-seen e = go (withinOf 1 k (p .n)) refl (ltb (length bs) (dueOf image p k .start + dueOf image p k .length)) refl
+      (foundIn p k (dueOf image p k) (recordAt (dueOf image p k) bs)) refl e
     where
-      go : (a : Bool) → withinOf 1 k (p .n) ≡ a → (b : Bool) → ltb (length bs) (spotOf image p k .start + spotOf image p k .length) ≡ b
-          → (v : Verdict) → foundIn p k (spotOf image p k) (recordAt (spotOf image p k) bs) ≡ v
+      go : (a : Bool) → withinOf 1 k (p .n) ≡ a → (b : Bool) → ltb (length bs) (dueOf image p k .start + dueOf image p k .length) ≡ b
+          → (v : Verdict) → foundIn p k (dueOf image p k) (recordAt (dueOf image p k) bs) ≡ v
           → pick a
-          (pick b (Wait (spotOf image p k .start + spotOf image p k .length - length bs))
-          (onVerdict v (k + 1) (spotOf image p k .start) (shownOf g p (spotOf image p k .start) (recordAt (spotOf image p k) bs))))
+          (pick b (Wait (dueOf image p k .start + dueOf image p k .length - length bs))
+          (onVerdict v (k + 1) (dueOf image p k .start) (shownOf g p (dueOf image p k .start) (recordAt (dueOf image p k) bs))))
           (Refused (bareRefusal 13)) ≡ Shown start count left
-          → Seen g p k (spotOf image p k) bs start count left
+          → Seen g p k (dueOf image p k) bs start count left
       go false ea b eb v ev e = absurd (refused≢shown _ _ _ _ e)
       go true ea true eb v ev e = absurd (wait≢shown _ _ _ _ e)
       go true ea false eb (Fault n at) ev e = absurd (refused≢shown _ _ _ _ e)
       go true ea false eb Fine ev e =
           record { inside = ea; whole = ltb-false _ _ eb; fine = ev; starts = sym (ap place e); counts = sym (ap number e); lefts = sym (ap fill e) }
 
-  pub seen-line : Seen g p k (spotOf image p k) bs start count left → lineOf g p k bs ≡ Shown start count left
+  pub seen-line : Seen g p k (dueOf image p k) bs start count left → lineOf g p k bs ≡ Shown start count left
   unfolding shownOf
   seen-line q =
-      line-in g p k bs (q .inside) ∙ at-whole g p k (spotOf image p k) bs (q .whole)
-      ∙ ap (λ (v : Verdict). onVerdict v (k + 1) (spotOf image p k .start) (shownOf g p (spotOf image p k .start) (recordAt (spotOf image p k) bs))) (q .fine)
+      line-in g p k bs (q .inside) ∙ at-whole g p k (dueOf image p k) bs (q .whole)
+      ∙ ap (λ (v : Verdict). onVerdict v (k + 1) (dueOf image p k .start) (shownOf g p (dueOf image p k .start) (recordAt (dueOf image p k) bs))) (q .fine)
       ∙ rw (q .starts, q .counts, q .lefts)
 
 -- a view that shows a line shows it under the first record's plan
-pub view-line : (g : ℕ) (bs : List ℕ) (k start count left : ℕ) → viewOf g bs k ≡ Shown start count left → lineOf g (firstOf bs .state .plan) k bs ≡ Shown start count left
+pub view-line : (g : ℕ) (bs : List ℕ) (k start count left : ℕ) → viewOf g bs k ≡ Shown start count left → lineOf g
+    (firstOf bs .state .plan) k bs ≡ Shown start count left
 unfolding viewOf
 view-line g bs k start count left e = go (firstOf bs .stop) e
   where
-    go : (x : Stop) → behindFirst x (lineOf g (firstOf bs .state .plan) k bs) ≡ Shown start count left → lineOf g (firstOf bs .state .plan) k bs ≡ Shown start count left
+    go : (x : Stop) → behindFirst x (lineOf g (firstOf bs .state .plan) k bs) ≡ Shown start count left → lineOf g
+        (firstOf bs .state .plan) k bs ≡ Shown start count left
     go (Wait′ n) e = absurd (wait≢shown _ _ _ _ e)
     go Pause e = e
     go Complete e = e

@@ -8,17 +8,17 @@ use lib.Dec.{ltb}
 use lib.ListN.{length, take, drop}
 use Rattle.words.specs.Tests.{pick, withinOf}
 use Rattle.words.specs.Words.{fourAt, placeOf}
-use Rattle.words.specs.declared.Refusal.{Refusal}
-use Rattle.plan.specs.Plan.{image, ahead, spotOf, codesOf, runCounts, runLengths, Small}
+use Rattle.words.specs.Answer.{bareRefusal}
+use Rattle.plan.specs.Plan.{image, ahead, dueOf, runCounts, runLengths, Small}
 use Rattle.plan.specs.declared.Plan.{Plan}
-use Rattle.plan.specs.declared.Spot.{Spot}
+use Rattle.plan.specs.declared.Due.{Due}
 use Rattle.verdicts.specs.Tests.{andThen}
 use Rattle.bodies.specs.Bodies.{bodyOf}
 use Rattle.verdicts.specs.declared.Verdict.{Verdict}
 use Rattle.verdicts.specs.declared.Verdict.the-variants.{Fine, Fault}
-use Rattle.walk.specs.Rule.{fresh}
+use Rattle.walk.specs.State.{fresh}
 use Rattle.headers.specs.Header.{headerOf}
-use Rattle.walk.specs.Turn.{walkOf}
+use Rattle.walk.specs.Walk.{walkOf}
 use Rattle.turns.specs.declared.Stop.{Stop}
 use Rattle.turns.specs.declared.Stop.the-variants.{Wait as Wait′, Pause, Complete, Refused as Refused′}
 use Rattle.walk.specs.declared.Walked.{Walked}
@@ -45,27 +45,23 @@ abbrev pub onVerdict : Verdict → ℕ → ℕ → View → View
 onVerdict Fine ordinal start v = v
 onVerdict (Fault n at) ordinal start v = Refused (record { number = n; «record» = ordinal; place = start + at })
 
--- a refusal that names no record
-abbrev pub bareRefusal : ℕ → Refusal
-bareRefusal n = record { number = n; «record» = 0; place = 0 }
+-- header (3, 4, 5), then body (10), of the record that is due there
+unfoldable pub foundIn : Plan → ℕ → Due → List ℕ → Verdict
+foundIn p k x r = andThen (headerOf (x .ordinal) (x .codes) (x .length) r) (bodyOf image (x .run) p k r)
 
--- header (3, 4, 5), then body (10), of the record at that spot
-unfoldable pub foundIn : Plan → ℕ → Spot → List ℕ → Verdict
-foundIn p k s r = andThen (headerOf (k + 1) (codesOf image (s .run)) (s .length) r) (bodyOf image (s .run) p k r)
+-- the bytes of the record that is due there
+abbrev pub recordAt : Due → List ℕ → List ℕ
+recordAt x bs = take (x .length) (drop (x .start) bs)
 
--- the bytes of the record at a spot
-abbrev pub recordAt : Spot → List ℕ → List ℕ
-recordAt s bs = take (s .length) (drop (s .start) bs)
-
--- line k, which stands at that spot: wait for the bytes still missing to its record's end; then 3, 4, 5, 10
-unfoldable pub lineAt : ℕ → Plan → ℕ → Spot → List ℕ → View
-lineAt g p k s bs =
-    pick (ltb (length bs) (s .start + s .length)) (Wait (s .start + s .length - length bs))
-    (onVerdict (foundIn p k s (recordAt s bs)) (k + 1) (s .start) (shownOf g p (s .start) (recordAt s bs)))
+-- line k, whose record is due there: wait for the bytes still missing to its record's end; then 3, 4, 5, 10
+unfoldable pub lineAt : ℕ → Plan → ℕ → Due → List ℕ → View
+lineAt g p k x bs =
+    pick (ltb (length bs) (x .start + x .length)) (Wait (x .start + x .length - length bs))
+    (onVerdict (foundIn p k x (recordAt x bs)) (x .ordinal) (x .start) (shownOf g p (x .start) (recordAt x bs)))
 
 -- 13; then the line
 unfoldable pub lineOf : ℕ → Plan → ℕ → List ℕ → View
-lineOf g p k bs = pick (withinOf 1 k (p .n)) (lineAt g p k (spotOf image p k) bs) (Refused (bareRefusal 13))
+lineOf g p k bs = pick (withinOf 1 k (p .n)) (lineAt g p k (dueOf image p k) bs) (Refused (bareRefusal 13))
 
 -- the first record's own wait or refusal; where it has passed, what follows
 abbrev pub behindFirst : Stop → View → View

@@ -1,8 +1,8 @@
 // What the page shows of an image that is held from byte 0 (document 01, "Lines, rows, sets"): the data
 // pixels of one line as a part of the caller's bytes. Earlier lines are not read: a line's place follows
 // from the plan.
+use plan::Due;
 use plan::Plan;
-use plan::Spot;
 use turns::Stop;
 use verdicts::Verdict;
 use walk::State;
@@ -10,8 +10,8 @@ use words::Refusal;
 ghost use mathlib.Core.Path.{_≡_};
 ghost use Prim.Native.Nat.{_+_, _*_, _≤_};
 ghost use lib.ListN.{length};
-ghost use Rattle.plan.specs.Plan.{image, group, Spotted};
-ghost use Rattle.lines.specs.View.{pixelsFrom, shownOf, foundIn, lineAt, lineOf, viewOf, pixelsOf, bareRefusal, Lined};
+ghost use Rattle.plan.specs.Plan.{image, group, Placed};
+ghost use Rattle.lines.specs.View.{pixelsFrom, shownOf, foundIn, lineAt, lineOf, viewOf, pixelsOf, Lined};
 
 // What a line view answers: the place of its first data pixel in the file, the data count and the
 // left fill; or the bytes still missing; or why it is refused.
@@ -21,27 +21,16 @@ pub enum View {
     Refused(Refusal),
 }
 
-// A refusal that names no record.
-fn unplaced(number: u64) -> Refusal
-    ensures { λ r. ⌜ r ≡ bareRefusal number ⌝ }
+// What is found in line k's record, which is due there: header (3, 4, 5), then body (10).
+fn found(p: Plan, k: u64, d: Due, r: &[u8]) -> Verdict
+    ensures { λ v. ⌜ v ≡ foundIn p k d (now (r .entry)) ⌝ }
 {
-    Refusal {
-        number,
-        record: 0,
-        place: 0,
-    }
-}
-
-// What is found in line k's record, which stands at that spot: header (3, 4, 5), then body (10).
-fn found(p: Plan, k: u64, s: Spot, r: &[u8]) -> Verdict
-    requires { ⌜ k ≤ 999999 ⌝ }
-    ensures { λ v. ⌜ v ≡ foundIn p k s (now (r .entry)) ⌝ }
-{
-    let h = headers::header(k + 1, plan::codes_of(plan::IMAGE, s.run), s.length, r);
+    let codes = d.codes;
+    let h = headers::header(d.ordinal, codes, d.length, r);
     let Verdict::Fine = h else {
         return h;
     };
-    bodies::judge(plan::IMAGE, s.run, p, k, r)
+    bodies::judge(plan::IMAGE, d.run, p, k, r).verdict
 }
 
 // Pixels start L - s - d bytes into a line's record, which may be more than the 192 of its front.
@@ -57,35 +46,34 @@ fn shown(p: Plan, start: u64, r: &[u8]) -> View
     requires { ⌜ (start ≤ 20000000000000) × (p .s + p .d ≤ p .l) × (p .l ≤ 99999999) ⌝ }
     ensures { λ v. ⌜ v ≡ shownOf group p start (now (r .entry)) ⌝ }
 {
-    let left = words::four(r, words::place(21));
-    let data = words::four(r, words::place(25));
-    let from = start + pixels_from(p) + plan::GROUP * left;
-    View::Shown(from, data, left)
+    let f = image::fills_of(r);
+    let from = start + pixels_from(p) + plan::GROUP * f.left;
+    View::Shown(from, f.data, f.left)
 }
 
-// Line k, which stands at that spot: wait for the bytes still missing to its record's end, then judge
+// Line k, whose record is due there: wait for the bytes still missing to its record's end, then judge
 // that record alone.
-fn line_at(p: Plan, k: u64, s: Spot, bytes: &[u8]) -> View
-    requires { ⌜ Lined group p × Spotted s × (k ≤ 999999) × (p .s + p .d ≤ p .l) ⌝ }
-    ensures { λ v. ⌜ v ≡ lineAt group p k s (now (bytes .entry)) ⌝ }
+fn line_at(p: Plan, k: u64, d: Due, bytes: &[u8]) -> View
+    requires { ⌜ Lined group p × Placed d × (p .s + p .d ≤ p .l) ⌝ }
+    ensures { λ v. ⌜ v ≡ lineAt group p k d (now (bytes .entry)) ⌝ }
 {
-    let end = s.start + s.length;
+    let end = d.start + d.length;
     let len = bytes.len() as u64;
     if len < end {
         return View::Wait(end - len);
     }
-    let from = s.start as usize;
+    let from = d.start as usize;
     let to = end as usize;
     let r = &bytes[from..to];
-    let v = found(p, k, s, r);
+    let v = found(p, k, d, r);
     if let Verdict::Fault(number, at) = v {
         return View::Refused(Refusal {
             number,
-            record: k + 1,
-            place: s.start + at,
+            record: d.ordinal,
+            place: d.start + at,
         });
     }
-    shown(p, s.start, r)
+    shown(p, d.start, r)
 }
 
 // Line k of an image with that plan, or 13.
@@ -94,9 +82,9 @@ fn line(p: Plan, k: u64, bytes: &[u8]) -> View
     ensures { λ v. ⌜ v ≡ lineOf group p k (now (bytes .entry)) ⌝ }
 {
     if words::within(1, k, p.n) {
-        return line_at(p, k, plan::spot_of(plan::IMAGE, p, k), bytes);
+        return line_at(p, k, plan::due_of(plan::IMAGE, p, k), bytes);
     }
-    View::Refused(unplaced(13))
+    View::Refused(words::bare(13))
 }
 
 // The line view, asked of an image prefix held from byte 0: the first record as in the walk, open;

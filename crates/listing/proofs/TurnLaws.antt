@@ -8,8 +8,8 @@ use lib.Dec.{ltb}
 use borrow.Author.Tests.{eq-eqb, ne-eqb}
 use Rattle.words.specs.Tests.{pick}
 use Rattle.words.specs.Words.{fourAt, placeOf}
-use Rattle.walk.specs.Rule.{fresh}
-use Rattle.walk.specs.Turn.{walkOf, beginOf}
+use Rattle.walk.specs.State.{fresh}
+use Rattle.walk.specs.Walk.{walkOf, beginOf}
 use Rattle.plan.specs.Plan.{image}
 use Rattle.walk.specs.declared.Begun.{Begun}
 use Rattle.walk.proofs.BegunLaws.{begun-walks}
@@ -56,7 +56,8 @@ module _ (st : State) (held : List ℕ) (closed : Bool) where
   module _ (w : Walked) (short : tooLong st ≡ false) (walks : w ≡ walkOf 1 st held closed) where
     pub told-is : toldOf st held closed ≡ record { state = w .state; say = sayOf st held (w .state) (w .stop) }
     unfolding toldOf
-    told-is = ap (λ (b : Bool). pick b (record { state = st; say = Last TooLong }) (toldBy st held (walkOf 1 st held closed))) short ∙ ap (toldBy st held) (sym walks)
+    told-is = ap (λ (b : Bool). pick b (record { state = st; say = Last TooLong }) (toldBy st held (walkOf 1 st held closed))) short
+        ∙ ap (toldBy st held) (sym walks)
 
     pub told-say : (x : Stop) (say : Say) → w .stop ≡ x → say ≡ sayOf st held (w .state) x → record { state = w .state; say = say } ≡ toldOf st held closed
     told-say x say e q =

@@ -1,12 +1,13 @@
--- One turn of the listing (document 01, "Lines, rows, sets"): what it says of the state, the bytes held of the next record, and whether the input has ended. Assumes nothing.
+-- One turn of the listing (document 01, "Lines, rows, sets"): what it says of the state, the bytes held of the next record, and whether the input has
+-- ended. Assumes nothing.
 use Prim.Native.Nat.{ℕ}
 use mathlib.Core.List.{List}
 use mathlib.Core.Bool.{Bool, false}
 use lib.Dec.{eqb, ltb}
 use Rattle.words.specs.Tests.{pick}
 use Rattle.words.specs.Words.{fourAt, placeOf}
-use Rattle.walk.specs.Rule.{startOf}
-use Rattle.walk.specs.Turn.{walkOf}
+use Rattle.walk.specs.State.{startOf}
+use Rattle.walk.specs.Walk.{walkOf}
 use Rattle.walk.specs.declared.State.{State}
 use Rattle.turns.specs.declared.Stop.{Stop}
 use Rattle.turns.specs.declared.Stop.the-variants.{Wait, Pause, Complete as Complete′, Refused as Refused′}

@@ -6,7 +6,7 @@ use turns::Stop;
 use walk::State;
 ghost use mathlib.Core.Path.{_≡_};
 ghost use Rattle.plan.specs.Plan.{image};
-ghost use Rattle.walk.specs.Rule.{fresh};
+ghost use Rattle.walk.specs.State.{fresh};
 ghost use Rattle.listing.specs.Rows.{passedRow, wanted, tooLong, toldOf};
 
 // The longest record that is held.
@@ -43,10 +43,8 @@ fn passed_row(st: State, r: &[u8], after: State) -> Row
         let p = after.plan;
         return Row::Image(p.n, p.w);
     }
-    let left = words::four(r, words::place(21));
-    let data = words::four(r, words::place(25));
-    let right = words::four(r, words::place(29));
-    Row::Line(st.passed, left, data, right)
+    let f = image::fills_of(r);
+    Row::Line(st.passed, f.left, f.data, f.right)
 }
 
 // Behind the last record one byte is asked for, to see whether more come.

@@ -1,43 +1,56 @@
 -- What the definitions of codes and lengths say in each of their cases, by computing their tests.
 use Prim.Native.Nat.{ℕ, zero, suc, _+_, _-_, _*_, _≤_, _<_}
-use mathlib.Core.Path.{_≡_, refl}
+use mathlib.Core.Path.{_≡_, refl, ap}
 use native.Mathlib.Omega.{arith}
-use lib.ListN.{length, List·getD-eq-default}
+use lib.ListN.{length, getD-replicate, List·getD-eq-default}
 use borrow.Author.Tests.{eq-eqb, ne-eqb, lt-ltb}
-use Rattle.plan.specs.Tables.{slot, slots, slotOf, codes, others, otherCodes}
+use Rattle.plan.specs.Tables.{rows, slot, slots, facility, slotOf, codes, others, otherCodes}
 use mathlib.Core.Bool.{Bool, true, false}
 use lib.Dec.{eqb}
 use Rattle.words.specs.Tests.{pick}
-use Rattle.plan.specs.Plan.{volume, leader, image, codesOf, firstLength, runCounts, runLengths, sumOf, totalOf, spotFrom, spotOf}
+use Rattle.plan.specs.Plan.{volume, leader, image, firstCodes, lineCodes, codesOf, firstLength, runCounts, runLengths, sumOf, totalOf, spotFrom}
+use Rattle.plan.specs.Plan.{spotOf, dueOf}
 use Rattle.plan.specs.declared.Plan.{Plan}
+use Rattle.plan.specs.declared.Spot.{Spot}
 
-pub slot-none : (i : ℕ) → 17 ≤ i → slotOf i ≡ slot 0 0 0 0 0
+pub slot-none : (i : ℕ) → rows ≤ i → slotOf i ≡ slot 0 0 0 0 0
 unfolding slotOf
 slot-none i h = List·getD-eq-default slots (slot 0 0 0 0 0) h
 
-pub other-none : (i : ℕ) → 7 ≤ i → otherCodes i ≡ codes 0 0 0 0
+pub other-none : (i : ℕ) → 6 ≤ i → otherCodes i ≡ codes 0 0 0 0
 unfolding otherCodes
 other-none i h = List·getD-eq-default others (codes 0 0 0 0) h
 
-module _ (kind : ℕ) where
-  pub codes-first : (run : ℕ) → run ≡ 0 → codesOf kind run ≡ otherCodes (kind - 1)
+-- the facility pairs stand behind the six slots
+pub slot-facility : (i : ℕ) → 6 ≤ i → i < rows → slotOf i ≡ facility
+unfolding slotOf
+slot-facility zero a b = absurd (omega arith)
+slot-facility (suc zero) a b = absurd (omega arith)
+slot-facility (suc (suc zero)) a b = absurd (omega arith)
+slot-facility (suc (suc (suc zero))) a b = absurd (omega arith)
+slot-facility (suc (suc (suc (suc zero)))) a b = absurd (omega arith)
+slot-facility (suc (suc (suc (suc (suc zero))))) a b = absurd (omega arith)
+slot-facility (suc (suc (suc (suc (suc (suc i)))))) a b = getD-replicate 11 i facility (slot 0 0 0 0 0) (omega arith)
+
+module _ (kind : ℕ) (p : Plan) where
+  pub codes-first : (run : ℕ) → run ≡ 0 → codesOf kind p run ≡ firstCodes kind
   unfolding codesOf
   codes-first zero e = refl
   codes-first (suc i) e = absurd (omega arith)
 
   pub codes-slot : (run : ℕ) → (run ≡ 0 → ⊥) → kind ≡ leader
-      → codesOf kind run ≡ record { one = 18; two = slotOf (run - 1) .code; three = 18; four = 20; free = slotOf (run - 1) .free }
+      → codesOf kind p run ≡ record { one = 18; two = slotOf (run - 1) .code; three = 18; four = 20; free = slotOf (run - 1) .free }
   unfolding codesOf
   codes-slot zero n e = absurd (n refl)
   codes-slot (suc i) n e = let d : suc i - 1 ≡ i = omega arith in rw (eq-eqb kind leader e, d)
 
-  pub codes-volume : (run : ℕ) → (run ≡ 0 → ⊥) → kind ≡ volume → codesOf kind run ≡ otherCodes (3 + run)
+  pub codes-volume : (run : ℕ) → (run ≡ 0 → ⊥) → kind ≡ volume → codesOf kind p run ≡ otherCodes (3 + run)
   unfolding codesOf
   codes-volume zero n e = absurd (n refl)
   codes-volume (suc i) n e =
       let d : 3 + suc i ≡ 4 + i = omega arith in rw (ne-eqb kind leader (omega arith), eq-eqb kind volume e, d)
 
-  pub codes-line : (run : ℕ) → (run ≡ 0 → ⊥) → (kind ≡ leader → ⊥) → (kind ≡ volume → ⊥) → codesOf kind run ≡ otherCodes 6
+  pub codes-line : (run : ℕ) → (run ≡ 0 → ⊥) → (kind ≡ leader → ⊥) → (kind ≡ volume → ⊥) → codesOf kind p run ≡ lineCodes 0
   unfolding codesOf
   codes-line zero n e f = absurd (n refl)
   codes-line (suc i) n e f = rw (ne-eqb kind leader e, ne-eqb kind volume f)
@@ -66,6 +79,13 @@ module _ (kind : ℕ) where
 pub line-spot : (p : Plan) (k : ℕ) → k < p .n → spotOf image p (suc k) ≡ record { run = 1; length = p .l; start = 720 + k * p .l }
 unfolding spotOf spotFrom runCounts runLengths firstLength
 line-spot p k h = simp (lt-ltb _ _ h)
+
+-- line k's record as it is due
+pub line-due : (p : Plan) (k : ℕ) → k < p .n
+    → dueOf image p (suc k) ≡ record { ordinal = suc k + 1; run = 1; codes = lineCodes 0; length = p .l; start = 720 + k * p .l }
+unfolding codesOf
+line-due p k h =
+    ap (λ (s : Spot). record { ordinal = suc k + 1; run = s .run; codes = codesOf image p (s .run); length = s .length; start = s .start }) (line-spot p k h)
 
 -- an image's records: the first, and its lines
 pub image-total : (p : Plan) → totalOf image p ≡ suc (p .n)

@@ -11,8 +11,9 @@ use lib.Seq.{drop-cons}
 use borrow.Author.Tests.{eq-eqb, ne-eqb, eqb-true, leb-true}
 use Rattle.words.specs.Tests.{bothOf, withinOf}
 use Rattle.words.proofs.Laws.{both-false, both-l, both-r, within-true}
-use Rattle.plan.specs.Tables.{slotOf}
-use Rattle.plan.specs.Plan.{volume, leader, image, trailer, group, ahead, allZero, slotsZero?, slotGood, slotsGood, volumeGood, leaderGood, imageGood, imageRanges, imageAgrees, zeroPlan?, planGood}
+use Rattle.plan.specs.Tables.{rows, slotOf}
+use Rattle.plan.specs.Plan.{volume, leader, image, trailer, group, ahead, allZero, slotsZero?, slotGood, slotsGood, volumeGood, leaderGood, imageGood}
+use Rattle.plan.specs.Plan.{imageRanges, imageAgrees, zeroPlan?, planGood}
 use Rattle.plan.specs.declared.Plan.{Plan}
 
 pub zero-at : (a : List ℕ) (i : ℕ) → i < length a → allZero (drop i a) ≡ bothOf (eqb (getD a i 0) 0) (allZero (drop (i + 1) a))
@@ -24,20 +25,20 @@ unfolding allZero
 zero-end a i h = ap allZero (drop-of-length-le a h)
 
 -- the slots from i on
-module _ (i : ℕ) (cs ls : List ℕ) (h : i < 17) where
-  slots-at : slotsGood i (17 - i) cs ls ≡ bothOf (slotGood i (getD cs i 0) (getD ls i 0)) (slotsGood (i + 1) (17 - (i + 1)) cs ls)
+module _ (i : ℕ) (cs ls : List ℕ) (h : i < rows) where
+  slots-at : slotsGood i (rows - i) cs ls ≡ bothOf (slotGood i (getD cs i 0) (getD ls i 0)) (slotsGood (i + 1) (rows - (i + 1)) cs ls)
   unfolding slotsGood
-  slots-at = ap (λ (m : ℕ). slotsGood i m cs ls) (let e : 17 - i ≡ suc (17 - (i + 1)) = omega arith in e)
+  slots-at = ap (λ (m : ℕ). slotsGood i m cs ls) (let e : rows - i ≡ suc (rows - (i + 1)) = omega arith in e)
 
-  pub slots-bad : slotGood i (getD cs i 0) (getD ls i 0) ≡ false → slotsGood i (17 - i) cs ls ≡ false
+  pub slots-bad : slotGood i (getD cs i 0) (getD ls i 0) ≡ false → slotsGood i (rows - i) cs ls ≡ false
   slots-bad e = slots-at ∙ simp e
 
-  pub slots-more : slotGood i (getD cs i 0) (getD ls i 0) ≡ true → slotsGood i (17 - i) cs ls ≡ slotsGood (i + 1) (17 - (i + 1)) cs ls
+  pub slots-more : slotGood i (getD cs i 0) (getD ls i 0) ≡ true → slotsGood i (rows - i) cs ls ≡ slotsGood (i + 1) (rows - (i + 1)) cs ls
   slots-more e = slots-at ∙ simp e
 
-pub slots-end : (i : ℕ) (cs ls : List ℕ) → 17 ≤ i → slotsGood i (17 - i) cs ls ≡ true
+pub slots-end : (i : ℕ) (cs ls : List ℕ) → rows ≤ i → slotsGood i (rows - i) cs ls ≡ true
 unfolding slotsGood
-slots-end i cs ls h = ap (λ (m : ℕ). slotsGood i m cs ls) (let e : 17 - i ≡ 0 = omega arith in e)
+slots-end i cs ls h = ap (λ (m : ℕ). slotsGood i m cs ls) (let e : rows - i ≡ 0 = omega arith in e)
 
 -- a slot's length is judged by its count
 module _ (i count length : ℕ) where
@@ -56,7 +57,8 @@ module _ (p : Plan) where
   pub image-unranged : imageRanges p ≡ false → imageGood p ≡ false
   unfolding imageGood
   image-unranged e =
-      ap (λ (t : Bool). bothOf (bothOf (eqb (p .pointers) 0) (slotsZero? p)) (bothOf t (imageAgrees p))) e ∙ both-false (bothOf (eqb (p .pointers) 0) (slotsZero? p))
+      ap (λ (t : Bool). bothOf (bothOf (eqb (p .pointers) 0) (slotsZero? p)) (bothOf t (imageAgrees p))) e
+      ∙ both-false (bothOf (eqb (p .pointers) 0) (slotsZero? p))
 
 -- the kinds
 module _ (kind : ℕ) (p : Plan) where

@@ -10,6 +10,7 @@ use lib.Seq.{drop-cons}
 use lib.Dec.{ltb}
 use borrow.Author.Tests.{lt-ltb, le-ltb}
 use Rattle.words.specs.Tests.{pick}
+use Rattle.plan.specs.Tables.{rows}
 use Rattle.plan.specs.Plan.{spotFrom, sumOf, Small}
 
 -- one more element, at the code's i + 1
@@ -27,7 +28,8 @@ module _ (i k at : ℕ) (cs ls : List ℕ) (p : i < length cs) (q : i < length l
   spot-here h = spot-at ∙ simp (lt-ltb _ _ h)
 
   pub spot-next : getD cs i 0 ≤ k
-      → spotFrom (i + 1) (drop i cs) (drop i ls) k at ≡ spotFrom (i + 1 + 1) (drop (i + 1) cs) (drop (i + 1) ls) (k - getD cs i 0) (at + getD cs i 0 * getD ls i 0)
+      → spotFrom (i + 1) (drop i cs) (drop i ls) k at ≡ spotFrom (i + 1 + 1) (drop (i + 1) cs) (drop (i + 1) ls) (k - getD cs i 0)
+      (at + getD cs i 0 * getD ls i 0)
   spot-next h = spot-at ∙ simp (le-ltb _ _ h)
 
 pub spot-end : (i k at : ℕ) (cs ls : List ℕ) → length cs ≤ i → spotFrom (i + 1) (drop i cs) (drop i ls) k at ≡ record { run = i + 1; length = 0; start = at }
@@ -35,7 +37,7 @@ unfolding spotFrom
 spot-end i k at cs ls h = rw (drop-of-length-le cs h)
 
 -- a part of a run takes at most what the run takes
-pub run-small : (x i : ℕ) (cs ls : List ℕ) → Small cs ls → i < 17 → x ≤ getD cs i 0 → x * getD ls i 0 ≤ 999998000001
+pub run-small : (x i : ℕ) (cs ls : List ℕ) → Small cs ls → i < rows → x ≤ getD cs i 0 → x * getD ls i 0 ≤ 999998000001
 run-small x i cs ls s k h =
     let m : x * getD ls i 0 ≤ getD cs i 0 * getD ls i 0 = mul-le-mul h (le-refl (getD ls i 0)) in
     omega (arith, s .area i k)

@@ -1,4 +1,4 @@
--- What a plan promises, over (kind, plan, k): the runs of equal records, the planned total, record k's spot and codes, and which plans the
+-- What a plan promises, over (kind, plan, k): the runs of equal records, the planned total, the record that is due, and which plans the
 -- rules allow. Records count from 0 here: record 0 is the first. Assumes nothing.
 use Prim.Native.Nat.{ℕ, zero, suc, _+_, _-_, _*_, _≤_, _<_}
 use mathlib.Core.List.{List, [], _∷_}
@@ -6,10 +6,11 @@ use mathlib.Core.Bool.{Bool, true}
 use lib.ListN.{getD, replicate}
 use lib.Dec.{ltb, leb, eqb}
 use Rattle.words.specs.Tests.{pick, bothOf, withinOf}
-use Rattle.plan.specs.Tables.{slotOf, otherCodes}
+use Rattle.plan.specs.Tables.{rows, codes, slotOf, otherCodes, sortOf}
 use Rattle.plan.specs.declared.Plan.{Plan}
 use Rattle.plan.specs.declared.Spot.{Spot}
 use Rattle.plan.specs.declared.Codes.{Codes}
+use Rattle.plan.specs.declared.Due.{Due}
 
 -- the four kinds
 abbrev pub volume : ℕ
@@ -26,26 +27,26 @@ trailer = 4
 
 -- an image's sample sort: bytes a group, and the least bytes that go ahead of the pixels
 abbrev pub group : ℕ
-group = 2
+group = sortOf 0 .group
 
 abbrev pub ahead : ℕ
-ahead = 192
+ahead = sortOf 0 .ahead
 
 -- all zeros: the plan of a state that has passed nothing, and a trailer's
 abbrev pub zeroPlan : Plan
-zeroPlan = record { pointers = 0; counts = replicate 17 0; lengths = replicate 17 0; n = 0; l = 0; w = 0; d = 0; s = 0 }
+zeroPlan = record { pointers = 0; counts = replicate rows 0; lengths = replicate rows 0; n = 0; l = 0; w = 0; d = 0; s = 0 }
 
 -- how many records each run has: pointers and one text; the leader's slots and facility pairs; lines
 unfoldable pub runCounts : ℕ → Plan → List ℕ
 runCounts kind p =
     pick (eqb kind volume) (p .pointers ∷ 1 ∷ replicate 15 0)
-    (pick (eqb kind leader) (p .counts) (pick (eqb kind image) (p .n ∷ replicate 16 0) (replicate 17 0)))
+    (pick (eqb kind leader) (p .counts) (pick (eqb kind image) (p .n ∷ replicate 16 0) (replicate rows 0)))
 
 -- how long the records of each run are
 unfoldable pub runLengths : ℕ → Plan → List ℕ
 runLengths kind p =
     pick (eqb kind volume) (360 ∷ 360 ∷ replicate 15 0)
-    (pick (eqb kind leader) (p .lengths) (pick (eqb kind image) (p .l ∷ replicate 16 0) (replicate 17 0)))
+    (pick (eqb kind leader) (p .lengths) (pick (eqb kind image) (p .l ∷ replicate 16 0) (replicate rows 0)))
 
 -- the first record's length
 unfoldable pub firstLength : ℕ → ℕ
@@ -71,13 +72,32 @@ unfoldable pub spotOf : ℕ → Plan → ℕ → Spot
 spotOf kind p zero = record { run = 0; length = firstLength kind; start = 0 }
 spotOf kind p (suc k) = spotFrom 1 (runCounts kind p) (runLengths kind p) k (firstLength kind)
 
--- the code bytes of a record of a run: a slot's are 18, x, 18, 20, a facility pair's 18, 200, 18 and any fourth byte
-unfoldable pub codesOf : ℕ → ℕ → Codes
-codesOf kind zero = otherCodes (kind - 1)
-codesOf kind (suc i) =
+-- the code bytes of a first record
+unfoldable pub firstCodes : ℕ → Codes
+firstCodes kind = otherCodes (kind - 1)
+
+-- the code bytes of a line, by the image's sort
+abbrev pub lineCodes : ℕ → Codes
+lineCodes sort = codes 50 (sortOf sort .code) 18 20
+
+-- the code bytes of a record of a run: a slot's are 18, x, 18, 20, a facility pair's 18, 200, 18 and any fourth byte, a line's by the image's sort
+unfoldable pub codesOf : ℕ → Plan → ℕ → Codes
+codesOf kind p zero = firstCodes kind
+codesOf kind p (suc i) =
     pick (eqb kind leader)
     (record { one = 18; two = slotOf i .code; three = 18; four = 20; free = slotOf i .free })
-    (pick (eqb kind volume) (otherCodes (4 + i)) (otherCodes 6))
+    (pick (eqb kind volume) (otherCodes (4 + i)) (lineCodes 0))
+
+-- the record that is due behind k others: its ordinal, its run, its codes, its length and its start in the file
+abbrev pub dueOf : ℕ → Plan → ℕ → Due
+dueOf kind p k =
+    record {
+      ordinal = k + 1;
+      run = spotOf kind p k .run;
+      codes = codesOf kind p (spotOf kind p k .run);
+      length = spotOf kind p k .length;
+      start = spotOf kind p k .start;
+    }
 
 -- ---- the plans that the rules allow
 
@@ -110,7 +130,7 @@ unfoldable pub volumeGood : Plan → Bool
 volumeGood p = bothOf (withinOf 3 (p .pointers) 6) (bothOf (slotsZero? p) (imageZero? p))
 
 unfoldable pub leaderGood : Plan → Bool
-leaderGood p = bothOf (eqb (p .pointers) 0) (bothOf (slotsGood 0 17 (p .counts) (p .lengths)) (imageZero? p))
+leaderGood p = bothOf (eqb (p .pointers) 0) (bothOf (slotsGood 0 rows (p .counts) (p .lengths)) (imageZero? p))
 
 -- an image's ranges; and its agreements: d is a group for each pixel, and what goes before, the data and the suffix fit L
 abbrev pub imageRanges : Plan → Bool
@@ -132,12 +152,22 @@ planGood kind p =
 
 -- runs small enough that no place in the file passes 64 bits
 pub record Small (cs ls : List ℕ) : Type 0 where
-  pub few : (i : ℕ) → i < 17 → getD cs i 0 ≤ 999999
-  pub short : (i : ℕ) → i < 17 → getD ls i 0 ≤ 99999999
-  pub area : (i : ℕ) → i < 17 → getD cs i 0 * getD ls i 0 ≤ 999998000001
+  pub few : (i : ℕ) → i < rows → getD cs i 0 ≤ 999999
+  pub short : (i : ℕ) → i < rows → getD ls i 0 ≤ 99999999
+  pub area : (i : ℕ) → i < rows → getD cs i 0 * getD ls i 0 ≤ 999998000001
+
+-- no plan whose runs are small promises more records than these and the first
+abbrev pub recordsMost : ℕ
+recordsMost = 1000000 * rows
 
 -- a spot whose numbers leave room for a place in its record
 pub record Spotted (x : Spot) : Type 0 where
-  pub run : x .run ≤ 18
+  pub run : x .run ≤ rows + 1
+  pub length : x .length ≤ 99999999
+  pub start : x .start ≤ 20000000000000
+
+-- a record that is due, whose numbers leave room for a place in it
+pub record Placed (x : Due) : Type 0 where
+  pub ordinal : x .ordinal ≤ recordsMost + 2
   pub length : x .length ≤ 99999999
   pub start : x .start ≤ 20000000000000

@@ -1,11 +1,12 @@
--- The tables of document 01's "First records and what they promise" (000): codes of each record, and the leader's slots with the ranges of
--- their counts and lengths. A row a rule. Assumes nothing.
+-- The tables of document 01's "First records and what they promise" (000): codes of each record, the leader's slots with the ranges of
+-- their counts and lengths, and the image's sorts. A row a rule. Assumes nothing.
 use Prim.Native.Nat.{ℕ}
 use mathlib.Core.List.{List, [], _∷_}
 use mathlib.Core.Bool.{true, false}
-use lib.ListN.{getD}
+use lib.ListN.{getD, replicate}
 use Rattle.plan.specs.declared.Codes.{Codes}
 use Rattle.plan.specs.declared.Slot.{Slot}
+use Rattle.plan.specs.declared.Sort.{Sort}
 
 -- four code bytes, none of them free
 abbrev pub codes : ℕ → ℕ → ℕ → ℕ → Codes
@@ -19,6 +20,10 @@ slot code least most shortest longest =
 abbrev pub facility : Slot
 facility = record { code = 200; free = true; least = 0; most = 1; shortest = 12; longest = 99999999 }
 
+-- how many slots and facility pairs the plan has a count and a length for
+abbrev pub rows : ℕ
+rows = 17
+
 -- the admitted slots 1, 2, 3, 4, 5, 7, and the eleven facility pairs
 abbrev pub slots : List Slot
 slots =
@@ -28,24 +33,13 @@ slots =
     ∷ slot 40 0 9 12 999999
     ∷ slot 50 0 9 12 999999
     ∷ slot 60 0 9 12 999999
-    ∷ facility
-    ∷ facility
-    ∷ facility
-    ∷ facility
-    ∷ facility
-    ∷ facility
-    ∷ facility
-    ∷ facility
-    ∷ facility
-    ∷ facility
-    ∷ facility
-    ∷ []
+    ∷ replicate 11 facility
 
--- the slot of a run, counted from 0
+-- the slot of a row, counted from 0
 unfoldable pub slotOf : ℕ → Slot
 slotOf i = getD slots i (slot 0 0 0 0 0)
 
--- the records that are no slot's: descriptors of the four kinds, then pointer, text and line
+-- the records that are no slot's and no line's: descriptors of the four kinds, then pointer and text
 abbrev pub others : List Codes
 others =
     codes 192 192 18 18
@@ -54,8 +48,11 @@ others =
     ∷ codes 63 192 18 18
     ∷ codes 219 192 18 18
     ∷ codes 18 192 18 18
-    ∷ codes 50 11 18 20
     ∷ []
 
 unfoldable pub otherCodes : ℕ → Codes
 otherCodes i = getD others i (codes 0 0 0 0)
+
+-- an image's sorts by number: the text at 429, bytes a group, the least bytes ahead of the pixels, the lines' second code byte. There is one: `IU2b`
+abbrev pub sortOf : ℕ → Sort
+sortOf sort = record { text = 73 ∷ 85 ∷ 50 ∷ 32 ∷ []; group = 2; ahead = 192; code = 11 }

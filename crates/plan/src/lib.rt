@@ -1,12 +1,12 @@
-// What a file's first record promises: how many records there are, and for record k (from 0) its
-// codes, its length and its start in the file. All of it is over (kind, plan, k) and knows nothing
-// of bytes (document 01, "First records and what they promise"; 000).
+// What a file's first record promises: how many records there are, and of record k (from 0) what is
+// due: its ordinal, codes, length and start in the file. All of it is over (kind, plan, k) and knows
+// nothing of bytes (document 01, "First records and what they promise"; 000).
 ghost use mathlib.Core.Path.{_≡_};
 ghost use Prim.Native.Nat.{ℕ, _+_, _<_, _≤_};
 ghost use lib.ListN.{getD};
-ghost use Rattle.plan.specs.Tables.{slotOf, otherCodes};
-ghost use Rattle.plan.specs.Plan.{zeroPlan, runCounts, runLengths, firstLength, Small, Spotted};
-ghost use Rattle.plan.specs.Plan.{sumOf, totalOf, spotFrom, spotOf, codesOf};
+ghost use Rattle.plan.specs.Tables.{rows, slot, facility, slotOf, codes, otherCodes, sortOf};
+ghost use Rattle.plan.specs.Plan.{zeroPlan, runCounts, runLengths, firstLength, Small, Spotted, Placed};
+ghost use Rattle.plan.specs.Plan.{sumOf, totalOf, spotFrom, spotOf, firstCodes, lineCodes, codesOf, dueOf, recordsMost};
 
 pub const VOLUME: u64 = 1;
 
@@ -16,18 +16,22 @@ pub const IMAGE: u64 = 3;
 
 pub const TRAILER: u64 = 4;
 
-// An image's sample sort: bytes a group, and the least bytes that go ahead of the pixels.
+// The one image sort of today: bytes a group, and the least bytes that go ahead of the pixels.
 pub const GROUP: u64 = 2;
 
 pub const AHEAD: u64 = 192;
+
+// How many slots and facility pairs of the leader the plan has a count and a length for: slots 1, 2, 3,
+// 4, 5, 7 and the eleven facility pairs.
+pub const ROWS: usize = 17;
 
 // The plan's numbers: the pointer count (volume); count and length of slots 1, 2, 3, 4, 5, 7 and of
 // the eleven facility pairs (leader); lines n, record length L, pixels w, data bytes d and suffix s
 // (image). Numbers that a kind does not use are 0.
 pub struct Plan {
     pub pointers: u64,
-    pub counts: [u64; 17],
-    pub lengths: [u64; 17],
+    pub counts: [u64; ROWS],
+    pub lengths: [u64; ROWS],
     pub n: u64,
     pub l: u64,
     pub w: u64,
@@ -41,6 +45,25 @@ pub struct Spot {
     pub run: u64,
     pub length: u64,
     pub start: u64,
+}
+
+// The record that is due: its ordinal, which is its sequence number, its run (0 is the first record),
+// its codes, its length and where it starts in the file.
+pub struct Due {
+    pub ordinal: u64,
+    pub run: u64,
+    pub codes: Codes,
+    pub length: u64,
+    pub start: u64,
+}
+
+// An image's sample sort: its text at 429, the bytes a group, the least bytes that go ahead of the
+// pixels, and its lines' second code byte.
+pub struct Sort {
+    pub text: [u8; 4],
+    pub group: u64,
+    pub ahead: u64,
+    pub code: u64,
 }
 
 // The four code bytes of a record; the fourth may be any byte where it is free.
@@ -65,179 +88,119 @@ pub struct Slot {
 
 // The runs of equal records behind the first record.
 pub struct Runs {
-    pub counts: [u64; 17],
-    pub lengths: [u64; 17],
+    pub counts: [u64; ROWS],
+    pub lengths: [u64; ROWS],
+}
+
+// The image's sorts by number, a row each. There is one today: counts of two bytes.
+pub fn sort_at(sort: u64) -> Sort
+    ensures { λ r. ⌜ r ≡ sortOf sort ⌝ }
+{
+    Sort {
+        text: [b'I', b'U', b'2', b' '],
+        group: GROUP,
+        ahead: AHEAD,
+        code: 11,
+    }
+}
+
+// A slot of the leader: its code, and the ranges of its count and of its length.
+fn slot_row(code: u64, least: u64, most: u64, shortest: u64, longest: u64) -> Slot
+    ensures { λ r. ⌜ r ≡ slot code least most shortest longest ⌝ }
+{
+    Slot {
+        code,
+        free: false,
+        least,
+        most,
+        shortest,
+        longest,
+    }
 }
 
 // Every facility pair has the same rules.
-const FACILITY: Slot = Slot {
-    code: 200,
-    free: true,
-    least: 0,
-    most: 1,
-    shortest: 12,
-    longest: 99999999,
-};
-
-// The admitted slots 1, 2, 3, 4, 5, 7, and the eleven facility pairs.
-const SLOTS: [Slot; 17] = [
+fn facility() -> Slot
+    ensures { λ r. ⌜ r ≡ facility ⌝ }
+{
     Slot {
-        code: 10,
-        free: false,
-        least: 1,
-        most: 1,
-        shortest: 4096,
-        longest: 4096,
-    },
-    Slot {
-        code: 20,
-        free: false,
+        code: 200,
+        free: true,
         least: 0,
         most: 1,
-        shortest: 1620,
-        longest: 1620,
-    },
-    Slot {
-        code: 30,
-        free: false,
-        least: 0,
-        most: 9,
         shortest: 12,
-        longest: 999999,
-    },
-    Slot {
-        code: 40,
-        free: false,
-        least: 0,
-        most: 9,
-        shortest: 12,
-        longest: 999999,
-    },
-    Slot {
-        code: 50,
-        free: false,
-        least: 0,
-        most: 9,
-        shortest: 12,
-        longest: 999999,
-    },
-    Slot {
-        code: 60,
-        free: false,
-        least: 0,
-        most: 9,
-        shortest: 12,
-        longest: 999999,
-    },
-    FACILITY,
-    FACILITY,
-    FACILITY,
-    FACILITY,
-    FACILITY,
-    FACILITY,
-    FACILITY,
-    FACILITY,
-    FACILITY,
-    FACILITY,
-    FACILITY,
-];
+        longest: 99999999,
+    }
+}
 
-// The records that are no slot's: descriptors of the four kinds, then pointer, text and line.
-const OTHERS: [Codes; 7] = [
-    Codes {
-        one: 192,
-        two: 192,
-        three: 18,
-        four: 18,
-        free: false,
-    },
-    Codes {
-        one: 11,
-        two: 192,
-        three: 18,
-        four: 18,
-        free: false,
-    },
-    Codes {
-        one: 50,
-        two: 192,
-        three: 18,
-        four: 18,
-        free: false,
-    },
-    Codes {
-        one: 63,
-        two: 192,
-        three: 18,
-        four: 18,
-        free: false,
-    },
-    Codes {
-        one: 219,
-        two: 192,
-        three: 18,
-        four: 18,
-        free: false,
-    },
-    Codes {
-        one: 18,
-        two: 192,
-        three: 18,
-        four: 18,
-        free: false,
-    },
-    Codes {
-        one: 50,
-        two: 11,
-        three: 18,
-        four: 20,
-        free: false,
-    },
-];
-
-// The rules of slot i, counted from 0 in the table; past its end nothing is allowed.
+// The rules of row i of the plan, from 0: slots 1, 2, 3, 4, 5, 7, then the eleven facility pairs; past
+// the last row nothing is allowed. It is no array, since one of structs is built anew at each look.
 pub fn slot_at(i: u64) -> Slot
     ensures { λ r. ⌜ r ≡ slotOf i ⌝ }
 {
-    if i < 17 {
-        let at = i as usize;
-        return SLOTS[at];
-    }
-    Slot {
-        code: 0,
-        free: false,
-        least: 0,
-        most: 0,
-        shortest: 0,
-        longest: 0,
+    match i {
+        0 => slot_row(10, 1, 1, 4096, 4096),
+        1 => slot_row(20, 0, 1, 1620, 1620),
+        2 => slot_row(30, 0, 9, 12, 999999),
+        3 => slot_row(40, 0, 9, 12, 999999),
+        4 => slot_row(50, 0, 9, 12, 999999),
+        5 => slot_row(60, 0, 9, 12, 999999),
+        6..=16 => facility(),
+        _ => slot_row(0, 0, 0, 0, 0),
     }
 }
 
+// Four code bytes, none of them free.
+fn four_codes(one: u64, two: u64, three: u64, four: u64) -> Codes
+    ensures { λ r. ⌜ r ≡ codes one two three four ⌝ }
+{
+    Codes {
+        one,
+        two,
+        three,
+        four,
+        free: false,
+    }
+}
+
+// The descriptors of the four kinds, then a directory's pointers and its text.
 fn other_codes(i: u64) -> Codes
     ensures { λ r. ⌜ r ≡ otherCodes i ⌝ }
 {
-    if i < 7 {
-        let at = i as usize;
-        return OTHERS[at];
-    }
-    Codes {
-        one: 0,
-        two: 0,
-        three: 0,
-        four: 0,
-        free: false,
+    match i {
+        0 => four_codes(192, 192, 18, 18),
+        1 => four_codes(11, 192, 18, 18),
+        2 => four_codes(50, 192, 18, 18),
+        3 => four_codes(63, 192, 18, 18),
+        4 => four_codes(219, 192, 18, 18),
+        5 => four_codes(18, 192, 18, 18),
+        _ => four_codes(0, 0, 0, 0),
     }
 }
 
+// The code bytes of a first record.
+fn first_codes(kind: u64) -> Codes
+    ensures { λ r. ⌜ r ≡ firstCodes kind ⌝ }
+{
+    if kind == 0 {
+        return other_codes(0);
+    }
+    other_codes(kind - 1)
+}
+
+// The code bytes of a line, by the image's sort.
+pub fn line_codes(sort: u64) -> Codes
+    ensures { λ r. ⌜ r ≡ lineCodes sort ⌝ }
+{
+    let row = sort_at(sort);
+    four_codes(50, row.code, 18, 20)
+}
+
 // The code bytes of a record of a run; run 0 is the first record.
-pub fn codes_of(kind: u64, run: u64) -> Codes
-    ensures { λ r. ⌜ r ≡ codesOf kind run ⌝ }
+fn codes_of(kind: u64, p: Plan, run: u64) -> Codes
+    ensures { λ r. ⌜ r ≡ codesOf kind p run ⌝ }
 {
     if run == 0 {
-        if kind == 0 {
-            return other_codes(0);
-        }
-        return other_codes(kind - 1);
+        return first_codes(kind);
     }
     if kind == LEADER {
         let row = slot_at(run - 1);
@@ -250,12 +213,12 @@ pub fn codes_of(kind: u64, run: u64) -> Codes
         };
     }
     if kind == VOLUME {
-        if run < 4 {
+        if run < 3 {
             return other_codes(3 + run);
         }
-        return other_codes(7);
+        return other_codes(6);
     }
-    other_codes(6)
+    line_codes(0)
 }
 
 // All zeros: the plan of a state that has passed nothing.
@@ -264,8 +227,8 @@ pub fn zero() -> Plan
 {
     Plan {
         pointers: 0,
-        counts: [0u64; 17],
-        lengths: [0u64; 17],
+        counts: [0u64; ROWS],
+        lengths: [0u64; ROWS],
         n: 0,
         l: 0,
         w: 0,
@@ -285,8 +248,8 @@ pub fn first_length(kind: u64) -> u64
 pub fn runs_of(kind: u64, p: Plan) -> Runs
     ensures { λ r. ⌜ (r .counts ≡ runCounts kind p) × (r .lengths ≡ runLengths kind p) ⌝ }
 {
-    let mut counts = [0u64; 17];
-    let mut lengths = [0u64; 17];
+    let mut counts = [0u64; ROWS];
+    let mut lengths = [0u64; ROWS];
     if kind == VOLUME {
         counts[0] = p.pointers;
         counts[1] = 1;
@@ -309,14 +272,14 @@ pub fn runs_of(kind: u64, p: Plan) -> Runs
     Runs { counts, lengths }
 }
 
-fn sum(counts: [u64; 17]) -> u64
-    requires { ⌜ ((i : ℕ) → i < 17 → getD counts i 0 ≤ 999999) ⌝ }
+fn sum(counts: [u64; ROWS]) -> u64
+    requires { ⌜ ((i : ℕ) → i < rows → getD counts i 0 ≤ 999999) ⌝ }
     ensures { λ r. ⌜ r ≡ sumOf counts ⌝ }
-    ensures { λ r. ⌜ r ≤ 17000000 ⌝ }
+    ensures { λ r. ⌜ r ≤ recordsMost ⌝ }
 {
     let mut total: u64 = 0;
     let mut i: usize = 0;
-    while i < 17 {
+    while i < ROWS {
         total += counts[i];
         i += 1;
     }
@@ -334,7 +297,7 @@ pub fn total(kind: u64, p: Plan) -> u64
 }
 
 // Record k of the runs, the first of which starts at `at`.
-fn find(counts: [u64; 17], lengths: [u64; 17], k: u64, at: u64) -> Spot
+fn find(counts: [u64; ROWS], lengths: [u64; ROWS], k: u64, at: u64) -> Spot
     requires { ⌜ Small counts lengths ⌝ }
     requires { ⌜ at ≤ 720 ⌝ }
     ensures { λ r. ⌜ r ≡ spotFrom 1 counts lengths k at ⌝ }
@@ -343,7 +306,7 @@ fn find(counts: [u64; 17], lengths: [u64; 17], k: u64, at: u64) -> Spot
     let mut i: usize = 0;
     let mut left = k;
     let mut start = at;
-    while i < 17 {
+    while i < ROWS {
         let c = counts[i];
         let l = lengths[i];
         if left < c {
@@ -365,7 +328,7 @@ fn find(counts: [u64; 17], lengths: [u64; 17], k: u64, at: u64) -> Spot
 }
 
 // Where record k stands; behind the last one, the place where the file ends.
-pub fn spot_of(kind: u64, p: Plan, k: u64) -> Spot
+fn spot_of(kind: u64, p: Plan, k: u64) -> Spot
     requires { ⌜ Small (runCounts kind p) (runLengths kind p) ⌝ }
     ensures { λ r. ⌜ r ≡ spotOf kind p k ⌝ }
     ensures { λ r. ⌜ Spotted r ⌝ }
@@ -382,4 +345,23 @@ pub fn spot_of(kind: u64, p: Plan, k: u64) -> Spot
     let c = r.counts;
     let l = r.lengths;
     find(c, l, k - 1, first)
+}
+
+// The record that is due behind k others: behind the last one, its start is the place where the file
+// ends.
+pub fn due_of(kind: u64, p: Plan, k: u64) -> Due
+    requires { ⌜ Small (runCounts kind p) (runLengths kind p) ⌝ }
+    requires { ⌜ k ≤ totalOf kind p ⌝ }
+    ensures { λ r. ⌜ r ≡ dueOf kind p k ⌝ }
+    ensures { λ r. ⌜ Placed r ⌝ }
+{
+    let s = spot_of(kind, p, k);
+    let codes = codes_of(kind, p, s.run);
+    Due {
+        ordinal: k + 1,
+        run: s.run,
+        codes,
+        length: s.length,
+        start: s.start,
+    }
 }

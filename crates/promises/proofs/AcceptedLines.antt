@@ -5,7 +5,8 @@ use mathlib.Core.List.{List, [], append-nil}
 use native.Mathlib.Omega.{arith}
 use lib.ListN.{length, take, drop, getD, replicate}
 use lib.Seq.{take-at, drop-append-add}
-use Rattle.promises.specs.Rules.{image, Accepted, ImageDescriptor, Record, Line, lineDue, Due, Follow, concat}
+use Rattle.promises.specs.Rules.{image, Record, Line, Due, Follow, concat}
+use Rattle.promises.specs.Newest.{Accepted, ImageDescriptor, lineDue}
 use Rattle.promises.specs.Shown.{lineStart, lineRecord, Stands}
 use Rattle.promises.proofs.Uniform.{uniform}
 
@@ -16,8 +17,10 @@ accepted-lines bs a (suc j) l h =
     let size = a .begins .is .size in
     let d = lineDue p in
     let one : 1 + j ≡ suc j = omega arith in
-    let q = uniform (p .n) 1 j d [] (a .rest) (subst (λ (ds : List Due). Follow 1 ds (a .rest)) (sym (append-nil (replicate (p .n) d))) (a .follows)) (omega arith) in
-    let e : lineStart p (suc j) ≡ length (a .first) + j * p .l = (let z : suc j - 1 ≡ j = omega arith in ap (λ (i : ℕ). 720 + i * p .l) z ∙ ap (λ (i : ℕ). i + j * p .l) (sym size)) in
+    let q = uniform (p .n) 1 j d [] (a .rest) (subst (λ (ds : List Due). Follow 1 ds (a .rest)) (sym (append-nil (replicate (p .n) d))) (a .follows))
+    (omega arith) in
+    let e : lineStart p (suc j) ≡ length (a .first) + j * p .l =
+    (let z : suc j - 1 ≡ j = omega arith in ap (λ (i : ℕ). 720 + i * p .l) z ∙ ap (λ (i : ℕ). i + j * p .l) (sym size)) in
     let r : lineRecord p (suc j) bs ≡ getD (a .rest) j [] =
     ap (λ (x : ℕ). take (p .l) (drop x bs)) e
     ∙ ap (λ (x : List ℕ). take (p .l) (drop (length (a .first) + j * p .l) x)) (sym (a .are))

@@ -1,4 +1,5 @@
--- `accepts`: for every kind, a closed walk from a fresh state ends "complete" exactly where the bytes are a file of that kind, given a budget of one more than the planned records; by induction over the budget one way, over the file's records the other.
+-- `accepts`: for every kind, a closed walk from a fresh state ends "complete" exactly where the bytes are a file of that kind, given a budget of one
+-- more than the planned records; by induction over the budget one way, over the file's records the other.
 use Prim.Native.Nat.{ℕ, zero, suc, _≤_, _<_}
 use mathlib.Core.Path.{_≡_, refl, sym, ap, _∙_, subst}
 use mathlib.Core.List.{List, [], _∷_, _++_}
@@ -11,13 +12,14 @@ use lib.Seq.{drop-cons, length-take-le, take-at, drop-at}
 use borrow.Author.Tests.{le-leb}
 use Rattle.words.specs.Tests.{withinOf}
 use Rattle.words.proofs.Laws.{both-make, within-true}
-use Rattle.plan.specs.Plan.{firstLength, totalOf, spotOf, planGood, zeroPlan}
+use Rattle.plan.specs.Tables.{rows}
+use Rattle.plan.specs.Plan.{firstLength, totalOf, spotOf, planGood, zeroPlan, codesOf}
 use Rattle.plan.specs.declared.Plan.{Plan}
 use Rattle.leader.specs.Leader.{countsOf, lengthsOf}
 use Rattle.bodies.specs.Named.{planOf}
-use Rattle.bodies.proofs.First.{first-good}
-use Rattle.walk.specs.Rule.{fresh, goodState, nextSpot}
-use Rattle.walk.specs.Turn.{turnOf, nextOf, walkOf}
+use Rattle.bodies.proofs.Named.{first-good}
+use Rattle.walk.specs.State.{fresh, goodState, nextDue}
+use Rattle.walk.specs.Walk.{turnOf, nextOf, walkOf}
 use Rattle.walk.specs.declared.State.{State}
 use Rattle.turns.specs.declared.Stop.the-variants.{Complete, Pause}
 use Rattle.turns.specs.declared.Turn.the-variants.{Pass, Halt}
@@ -26,10 +28,13 @@ use Rattle.walk.proofs.GoodLaws.{good-some, fresh-good}
 use Rattle.walk.proofs.LoopLaws.{walk-pause}
 use Rattle.turns.proofs.TurnLaws.{one-total, pass-going}
 use Rattle.walk.proofs.TurnLaws.{next-as-later}
-use Rattle.promises.specs.Rules.{Kind, volume, leader, image, trailer, kindNumber, First, Due, promised, textRecord, Follow, concat, Accepted}
+use Rattle.promises.specs.Rules.{Kind, volume, leader, image, trailer, kindNumber, Due, textRecord, Follow, concat}
+use Rattle.promises.specs.Edition.{newest}
+use Rattle.promises.specs.Newest.{First, promised, Accepted}
 use Rattle.promises.proofs.Passing.{complete-is, pass-is, Ends, now, later, ends-is}
-use Rattle.promises.proofs.FirstIs.{first-is, first-names, first-size, same-promised, Fault-free}
-use Rattle.promises.proofs.LaterIs.{due, spot, later-is, promised-length}
+use Rattle.promises.proofs.FirstIs.{first-is, first-names, Fault-free}
+use Rattle.promises.proofs.AnyEdition.{first-size, same-promised}
+use Rattle.promises.proofs.LaterIs.{due, dueAt, later-is, promised-length}
 use Rattle.promises.proofs.Least.{spot-least, first-least}
 
 none-left : (b : List ℕ) → length b ≡ 0 → b ≡ []
@@ -54,7 +59,7 @@ record Rest (kind : Kind) (p : Plan) (k : ℕ) (bs : List ℕ) : Type 0 where
   are : concat records ≡ bs
   follow : Follow (suc k) (drop k (promised kind p)) records
 
-module _ (kind : Kind) (p : Plan) (good : planGood (kindNumber kind) p ≡ true) (cl : length (p .counts) ≡ 17) (ll : length (p .lengths) ≡ 17) where
+module _ (kind : Kind) (p : Plan) (good : planGood (kindNumber kind) p ≡ true) (cl : length (p .counts) ≡ rows) (ll : length (p .lengths) ≡ rows) where
   good-behind : (k : ℕ) → suc k ≤ totalOf (kindNumber kind) p → goodState (behind kind p k) ≡ true
   good-behind k h = good-some (behind kind p k) (λ e. omega arith) ∙ both-make _ _ (kind-known kind) (both-make _ _ good (le-leb _ _ h))
 
@@ -71,22 +76,23 @@ module _ (kind : Kind) (p : Plan) (good : planGood (kindNumber kind) p ≡ true)
 
   walk-to : (n k : ℕ) (bs : List ℕ) → suc k ≤ totalOf (kindNumber kind) p → walkOf n (behind kind p k) bs true .stop ≡ Complete → Rest kind p k bs
   walk-to zero k bs h e =
-      absurd (let q : Pause ≡ Complete = sym (ap (λ (w : Walked). w .stop) (walk-pause (behind kind p k) bs true (good-behind k h))) ∙ e in let z : _≡_ {A = ℕ} 0 1 = cc in omega arith)
+      absurd (let q : Pause ≡ Complete = sym (ap (λ (w : Walked). w .stop) (walk-pause (behind kind p k) bs true (good-behind k h))) ∙ e in
+      let z : _≡_ {A = ℕ} 0 1 = cc in omega arith)
   walk-to (suc n) k bs h e = go (walk-to n (suc k)) (ends-is (behind kind p k) bs n (good-behind k h) .0 e)
     where
       go : ((bs : List ℕ) → suc (suc k) ≤ totalOf (kindNumber kind) p → walkOf n (behind kind p (suc k)) bs true .stop ≡ Complete → Rest kind p (suc k) bs)
           → Ends (behind kind p k) bs n (good-behind k h) → Rest kind p k bs
       go more (now q) =
-          let c = complete-is (kindNumber kind) p (suc k) (spot kind p k) bs .0 q in
+          let c = complete-is (kindNumber kind) p (suc k) (dueAt kind p k) bs .0 q in
           record {
             records = [];
             are = sym (none-left bs (c .1));
             follow = subst (λ (ds : List Due). Follow (suc k) ds []) (sym (all-passed k (c .0))) tt;
           }
       go more (later q w) =
-          let g = pass-going (kindNumber kind) p (suc k) (spot kind p k) bs true q in
-          let a = pass-is (kindNumber kind) p (suc k) (spot kind p k) bs true g (spot-least kind p good cl ll k g) .0 q in
-          let l = spot kind p k .length in
+          let g = pass-going (kindNumber kind) p (suc k) (dueAt kind p k) bs true q in
+          let a = pass-is (kindNumber kind) p (suc k) (dueAt kind p k) bs true g (spot-least kind p good cl ll k g) .0 q in
+          let l = dueAt kind p k .length in
           let u = later-is kind p good cl ll k g (take l bs) .0 (record { size = length-take-le l bs (a .whole); head = a .head; body = a .body }) in
           let m = more (drop l bs) (omega arith) (subst (λ (st : State). walkOf n st (drop l bs) true .stop ≡ Complete) (next-behind k bs) w) in
           record {
@@ -108,39 +114,44 @@ module _ (kind : Kind) (p : Plan) (good : planGood (kindNumber kind) p ≡ true)
   walk-from [] (suc n) k h b f = go (drop k (promised kind p)) refl f
     where
       go : (ds : List Due) → drop k (promised kind p) ≡ ds → Follow (suc k) ds [] → walkOf (suc n) (behind kind p k) [] true .stop ≡ Complete
-      go [] e f = ends-is (behind kind p k) [] n (good-behind k h) .1 (now (complete-is (kindNumber kind) p (suc k) (spot kind p k) [] .1 (due-none k e, refl)))
+      go [] e f =
+          ends-is (behind kind p k) [] n (good-behind k h) .1 (now (complete-is (kindNumber kind) p (suc k) (dueAt kind p k) [] .1 (due-none k e, refl)))
       go (d ∷ ds) e f = absurd f
   walk-from (r ∷ rs) (suc n) k h b f = go (walk-from rs n (suc k)) (drop k (promised kind p)) refl f
     where
-      go : (suc (suc k) ≤ totalOf (kindNumber kind) p → length rs < n → Follow (suc (suc k)) (drop (suc k) (promised kind p)) rs → walkOf n (behind kind p (suc k)) (concat rs) true .stop ≡ Complete)
-          → (ds : List Due) → drop k (promised kind p) ≡ ds → Follow (suc k) ds (r ∷ rs) → walkOf (suc n) (behind kind p k) (r ++ concat rs) true .stop ≡ Complete
+      go : (suc (suc k) ≤ totalOf (kindNumber kind) p → length rs < n → Follow (suc (suc k)) (drop (suc k) (promised kind p)) rs
+          → walkOf n (behind kind p (suc k)) (concat rs) true .stop ≡ Complete)
+          → (ds : List Due) → drop k (promised kind p) ≡ ds → Follow (suc k) ds (r ∷ rs)
+          → walkOf (suc n) (behind kind p k) (r ++ concat rs) true .stop ≡ Complete
       go more [] e f = absurd f
       go more (d ∷ ds) e f =
           let g = due-some k d ds e in
-          let f′ : Follow (suc k) (due kind p k ∷ drop (suc k) (promised kind p)) (r ∷ rs) = subst (λ (x : List Due). Follow (suc k) x (r ∷ rs)) (sym e ∙ one-due k g) f in
+          let f′ : Follow (suc k) (due kind p k ∷ drop (suc k) (promised kind p)) (r ∷ rs) =
+          subst (λ (x : List Due). Follow (suc k) x (r ∷ rs)) (sym e ∙ one-due k g) f in
           let j = later-is kind p good cl ll k g r .1 (f′ .0) in
-          let l = spot kind p k .length in
+          let l = dueAt kind p k .length in
           let t : take l (r ++ concat rs) ≡ r = take-at r (concat rs) l (j .size) in
           let u : drop l (r ++ concat rs) ≡ concat rs = drop-at r (concat rs) l (j .size) in
           let a = length-append r (concat rs) in
           let z = j .size in
           ends-is (behind kind p k) (r ++ concat rs) n (good-behind k h) .1
-          (later (pass-is (kindNumber kind) p (suc k) (spot kind p k) (r ++ concat rs) true g (spot-least kind p good cl ll k g) .1
+          (later (pass-is (kindNumber kind) p (suc k) (dueAt kind p k) (r ++ concat rs) true g (spot-least kind p good cl ll k g) .1
           (record { whole = omega arith; head = rw t (j .head); body = rw t (j .body) }))
           (subst (λ (x : List ℕ). walkOf n (nextOf (behind kind p k) (r ++ concat rs)) x true .stop ≡ Complete) (sym u)
-          (subst (λ (st : State). walkOf n st (concat rs) true .stop ≡ Complete) (sym (next-behind k (r ++ concat rs))) (more (omega arith) (omega arith) (f′ .1)))))
+          (subst (λ (st : State). walkOf n st (concat rs) true .stop ≡ Complete) (sym (next-behind k (r ++ concat rs)))
+          (more (omega arith) (omega arith) (f′ .1)))))
 
 -- ---- the first record
 
--- the plan that a first record names has a number for each of the 17 slots and pairs
-plan-counts : (kind : Kind) (r : List ℕ) → length (planOf (kindNumber kind) r .counts) ≡ 17
+-- the plan that a first record names has a number for each row of slots and facility pairs
+plan-counts : (kind : Kind) (r : List ℕ) → length (planOf (kindNumber kind) r .counts) ≡ rows
 unfolding planOf countsOf
 plan-counts volume r = refl
 plan-counts leader r = refl
 plan-counts image r = refl
 plan-counts trailer r = refl
 
-plan-lengths : (kind : Kind) (r : List ℕ) → length (planOf (kindNumber kind) r .lengths) ≡ 17
+plan-lengths : (kind : Kind) (r : List ℕ) → length (planOf (kindNumber kind) r .lengths) ≡ rows
 unfolding planOf lengthsOf
 plan-lengths volume r = refl
 plan-lengths leader r = refl
@@ -167,13 +178,14 @@ module _ (kind : Kind) (bs : List ℕ) where
 
   fresh-going : turnOf (fresh (kindNumber kind)) bs true ≡ Halt Complete → ⊥
   fresh-going e =
-      let h = complete-is (kindNumber kind) zeroPlan 0 (nextSpot (fresh (kindNumber kind))) bs .0 e in
+      let h = complete-is (kindNumber kind) zeroPlan 0 (nextDue (fresh (kindNumber kind))) bs .0 e in
       omega (arith, one-total (kindNumber kind) zeroPlan)
 
-  pub fresh-is : (c : Bool) → (turnOf (fresh (kindNumber kind)) bs c ≡ Pass) ↔ ((firstLength (kindNumber kind) ≤ length bs) × Fault-free (kindNumber kind) zeroPlan front)
-  unfolding spotOf
+  pub fresh-is : (c : Bool)
+      → (turnOf (fresh (kindNumber kind)) bs c ≡ Pass) ↔ ((firstLength (kindNumber kind) ≤ length bs) × Fault-free (kindNumber kind) zeroPlan front)
+  unfolding spotOf codesOf
   fresh-is c =
-      let i = pass-is (kindNumber kind) zeroPlan 0 (nextSpot (fresh (kindNumber kind))) bs c (one-total (kindNumber kind) zeroPlan) (first-least kind) in
+      let i = pass-is (kindNumber kind) zeroPlan 0 (nextDue (fresh (kindNumber kind))) bs c (one-total (kindNumber kind) zeroPlan) (first-least kind) in
       (λ e. let q = i .0 e in (q .whole, record { head = q .head; body = q .body }), λ h. i .1 (record { whole = h .0; head = h .1 .head; body = h .1 .body }))
 
   plan-good : Fault-free (kindNumber kind) zeroPlan front → planGood (kindNumber kind) planned ≡ true
@@ -183,7 +195,8 @@ module _ (kind : Kind) (bs : List ℕ) where
 pub complete-accepted : (kind : Kind) (bs : List ℕ) (n : ℕ) → walkOf n (fresh (kindNumber kind)) bs true .stop ≡ Complete → Accepted kind bs
 unfolding spotOf
 complete-accepted kind bs zero e =
-    absurd (let q : Pause ≡ Complete = sym (ap (λ (w : Walked). w .stop) (walk-pause (fresh (kindNumber kind)) bs true (good-fresh kind))) ∙ e in let z : _≡_ {A = ℕ} 0 1 = cc in omega arith)
+    absurd (let q : Pause ≡ Complete = sym (ap (λ (w : Walked). w .stop) (walk-pause (fresh (kindNumber kind)) bs true (good-fresh kind))) ∙ e in
+    let z : _≡_ {A = ℕ} 0 1 = cc in omega arith)
 complete-accepted kind bs (suc n) e = go (ends-is (fresh (kindNumber kind)) bs n (good-fresh kind) .0 e)
   where
     go : Ends (fresh (kindNumber kind)) bs n (good-fresh kind) → Accepted kind bs
@@ -193,7 +206,8 @@ complete-accepted kind bs (suc n) e = go (ends-is (fresh (kindNumber kind)) bs n
         let r = take (firstLength (kindNumber kind)) bs in
         let p = planOf (kindNumber kind) r in
         let m =
-        walk-to kind p (plan-good kind bs (f .1)) (plan-counts kind r) (plan-lengths kind r) n 0 (drop (firstLength (kindNumber kind)) bs) (one-total (kindNumber kind) p)
+        walk-to kind p (plan-good kind bs (f .1)) (plan-counts kind r) (plan-lengths kind r) n 0 (drop (firstLength (kindNumber kind)) bs)
+        (one-total (kindNumber kind) p)
         (subst (λ (st : State). walkOf n st (drop (firstLength (kindNumber kind)) bs) true .stop ≡ Complete) (next-fresh kind bs) w) in
         record {
           plan = p;
@@ -212,11 +226,12 @@ follow-length k (d ∷ ds) [] f = absurd f
 follow-length k (d ∷ ds) (r ∷ rs) f = ap suc (follow-length (suc k) ds rs (f .1))
 
 -- a file of the rules is walked to "complete" where the budget is more than the planned records
-pub accepted-complete : (kind : Kind) (bs : List ℕ) (n : ℕ) → totalOf (kindNumber kind) (planned kind bs) < n → Accepted kind bs → walkOf n (fresh (kindNumber kind)) bs true .stop ≡ Complete
+pub accepted-complete : (kind : Kind) (bs : List ℕ) (n : ℕ) → totalOf (kindNumber kind) (planned kind bs) < n → Accepted kind bs
+    → walkOf n (fresh (kindNumber kind)) bs true .stop ≡ Complete
 unfolding spotOf
 accepted-complete kind bs zero b a = absurd (omega arith)
 accepted-complete kind bs (suc n) b a =
-    let size = first-size kind (a .plan) (a .first) (a .begins) in
+    let size = first-size newest kind (a .plan) (a .first) (a .begins) in
     let l = firstLength (kindNumber kind) in
     let t : take l bs ≡ a .first = ap (take l) (sym (a .are)) ∙ take-at (a .first) (concat (a .rest)) l size in
     let u : drop l bs ≡ concat (a .rest) = ap (drop l) (sym (a .are)) ∙ drop-at (a .first) (concat (a .rest)) l size in
@@ -225,17 +240,20 @@ accepted-complete kind bs (suc n) b a =
     let enough : l ≤ length bs = (let x = ap length (sym (a .are)) in let y = length-append (a .first) (concat (a .rest)) in omega arith) in
     let f = first-names kind zeroPlan (a .plan) (take l bs) long .1 begins in
     let p = planned kind bs in
-    let same : promised kind p ≡ promised kind (a .plan) = same-promised kind p (a .plan) (f .1) in
+    let same : promised kind p ≡ promised kind (a .plan) = same-promised newest kind p (a .plan) (f .1) in
     let follow : Follow 1 (promised kind p) (a .rest) = subst (λ (ds : List Due). Follow 1 ds (a .rest)) (sym same) (a .follows) in
-    let few : length (a .rest) < n = (let x = follow-length 1 (promised kind p) (a .rest) follow in let y = promised-length kind p (plan-counts kind (take l bs)) (plan-lengths kind (take l bs)) in omega arith) in
-    let w = walk-from kind p (plan-good kind bs (f .0)) (plan-counts kind (take l bs)) (plan-lengths kind (take l bs)) (a .rest) n 0 (one-total (kindNumber kind) p) few follow in
+    let few : length (a .rest) < n = (let x = follow-length 1 (promised kind p) (a .rest) follow in
+    let y = promised-length kind p (plan-counts kind (take l bs)) (plan-lengths kind (take l bs)) in omega arith) in
+    let w = walk-from kind p (plan-good kind bs (f .0)) (plan-counts kind (take l bs)) (plan-lengths kind (take l bs)) (a .rest) n 0
+    (one-total (kindNumber kind) p) few follow in
     ends-is (fresh (kindNumber kind)) bs n (good-fresh kind) .1
     (later (fresh-is kind bs true .1 (enough, f .0))
     (goes u (subst (λ (st : State). walkOf n st (concat (a .rest)) true .stop ≡ Complete) (sym (next-fresh kind bs)) w)))
   where
     goes : {x : List ℕ} → drop (firstLength (kindNumber kind)) bs ≡ x → walkOf n (nextOf (fresh (kindNumber kind)) bs) x true .stop ≡ Complete
-        → walkOf n (nextOf (fresh (kindNumber kind)) bs) (drop (nextSpot (fresh (kindNumber kind)) .length) bs) true .stop ≡ Complete
+        → walkOf n (nextOf (fresh (kindNumber kind)) bs) (drop (nextDue (fresh (kindNumber kind)) .length) bs) true .stop ≡ Complete
     goes e h = subst (λ (y : List ℕ). walkOf n (nextOf (fresh (kindNumber kind)) bs) y true .stop ≡ Complete) (sym e) h
 
-pub accepts : (kind : Kind) (bs : List ℕ) (n : ℕ) → totalOf (kindNumber kind) (planned kind bs) < n → (walkOf n (fresh (kindNumber kind)) bs true .stop ≡ Complete) ↔ Accepted kind bs
+pub accepts : (kind : Kind) (bs : List ℕ) (n : ℕ) → totalOf (kindNumber kind) (planned kind bs) < n
+    → (walkOf n (fresh (kindNumber kind)) bs true .stop ≡ Complete) ↔ Accepted kind bs
 accepts kind bs n b = (complete-accepted kind bs n, accepted-complete kind bs n b)

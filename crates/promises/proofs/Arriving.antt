@@ -1,4 +1,5 @@
--- While a file arrives: what is refused no accepted file begins with, since a refusal stays and an accepted file's walk completes; what waits at a record's end some accepted file begins with, since every good state can be completed.
+-- While a file arrives: what is refused no accepted file begins with, since a refusal stays and an accepted file's walk completes; what waits at a
+-- record's end some accepted file begins with, since every good state can be completed.
 use Prim.Native.Nat.{ℕ, suc, _+_, _<_}
 use mathlib.Core.Path.{_≡_, refl, sym, ap, _∙_, subst}
 use mathlib.Core.List.{List, [], _++_, append-assoc, append-nil}
@@ -6,14 +7,15 @@ use mathlib.Core.Bool.{true, false}
 use mathlib.Core.Logic.{_↔_}
 use native.Mathlib.Omega.{arith}
 use lib.ListN.{take, drop, take-append-drop}
-use Rattle.plan.specs.Plan.{totalOf}
-use Rattle.walk.specs.Rule.{fresh}
-use Rattle.walk.specs.Turn.{walkOf}
+use Rattle.plan.specs.Plan.{totalOf, recordsMost}
+use Rattle.walk.specs.State.{fresh}
+use Rattle.walk.specs.Walk.{walkOf}
 use Rattle.walk.specs.declared.State.{State}
 use Rattle.turns.specs.declared.Stop.{Stop}
 use Rattle.turns.specs.declared.Stop.the-variants.{Wait, Pause, Complete, Refused}
 use Rattle.walk.specs.declared.Walked.{Walked}
-use Rattle.promises.specs.Rules.{Kind, kindNumber, Accepted}
+use Rattle.promises.specs.Rules.{Kind, kindNumber}
+use Rattle.promises.specs.Newest.{Accepted}
 use Rattle.promises.specs.Pieces.{usedOf}
 use Rattle.promises.specs.Bytes.{Bytes}
 use Rattle.promises.specs.Arriving.{Own, again, Starts, Waits, Refuses}
@@ -33,7 +35,8 @@ refused-none kind {st} {pre} o b bs (x, e) (ys, by, a) =
     let r = reached kind o in
     let all : List ℕ = (pre ++ bs) ++ ys in
     let d : ℕ = suc (totalOf (kindNumber kind) (planned kind all)) in
-    let c : walkOf (r .passed + (b + d)) (fresh (kindNumber kind)) all true .stop ≡ Complete = accepted-complete kind all (r .passed + (b + d)) (omega arith) a in
+    let c : walkOf (r .passed + (b + d)) (fresh (kindNumber kind)) all true .stop ≡ Complete =
+    accepted-complete kind all (r .passed + (b + d)) (omega arith) a in
     let q : walkOf (r .passed + (b + d)) (fresh (kindNumber kind)) all true .stop ≡ walkOf (b + d) st (bs ++ ys) true .stop =
     ap (λ (z : List ℕ). walkOf (r .passed + (b + d)) (fresh (kindNumber kind)) z true .stop) (append-assoc pre bs ys)
     ∙ ap (λ (w : Walked). w .stop) (r .walks (b + d) (bs ++ ys) true) in
@@ -43,7 +46,8 @@ refused-none kind {st} {pre} o b bs (x, e) (ys, by, a) =
     omega arith
 
 -- a wait that leaves no byte unpassed: some accepted file begins with the bytes
-wait-starts : (kind : Kind) {st : State} {pre : List ℕ} → Own kind st pre → (b : ℕ) (bs : List ℕ) → drop (usedOf b st bs false) bs ≡ [] → Starts kind (pre ++ bs)
+wait-starts : (kind : Kind) {st : State} {pre : List ℕ} → Own kind st pre → (b : ℕ) (bs : List ℕ) → drop (usedOf b st bs false) bs ≡ []
+    → Starts kind (pre ++ bs)
 wait-starts kind {st} {pre} o b bs e = go (completes st′ (r .good) (r .rows .0) (r .rows .1))
   where
     st′ : State
@@ -53,13 +57,18 @@ wait-starts kind {st} {pre} o b bs e = go (completes st′ (r .good) (r .rows .0
     r = reached kind (again o b bs false)
 
     all : take (usedOf b st bs false) bs ≡ bs
-    all = sym (append-nil (take (usedOf b st bs false) bs)) ∙ ap (λ (z : List ℕ). take (usedOf b st bs false) bs ++ z) (sym e) ∙ take-append-drop (usedOf b st bs false) bs
+    all = sym (append-nil (take (usedOf b st bs false) bs)) ∙ ap (λ (z : List ℕ). take (usedOf b st bs false) bs ++ z) (sym e)
+        ∙ take-append-drop (usedOf b st bs false) bs
 
-    go : (ys : List ℕ) × Bytes ys × ((n : ℕ) → 17000001 < n → walkOf n st′ ys true .stop ≡ Complete) → Starts kind (pre ++ bs)
+    go : (ys : List ℕ) × Bytes ys × ((n : ℕ) → recordsMost + 1 < n → walkOf n st′ ys true .stop ≡ Complete) → Starts kind (pre ++ bs)
     go (ys, by, c) =
-        let k : walkOf (r .passed + 17000002) (fresh (kindNumber kind)) ((pre ++ take (usedOf b st bs false) bs) ++ ys) true .stop ≡ Complete =
-        ap (λ (w : Walked). w .stop) (r .walks 17000002 ys true) ∙ c 17000002 (omega arith) in
-        (ys, by, subst (λ (z : List ℕ). Accepted kind ((pre ++ z) ++ ys)) all (complete-accepted kind ((pre ++ take (usedOf b st bs false) bs) ++ ys) (r .passed + 17000002) k))
+        let k : walkOf (r .passed + (recordsMost + 2)) (fresh (kindNumber kind)) ((pre ++ take (usedOf b st bs false) bs) ++ ys) true .stop ≡ Complete =
+        ap (λ (w : Walked). w .stop) (r .walks (recordsMost + 2) ys true) ∙ c (recordsMost + 2) (omega arith) in (
+          ys,
+          by,
+          subst (λ (z : List ℕ). Accepted kind ((pre ++ z) ++ ys)) all
+              (complete-accepted kind ((pre ++ take (usedOf b st bs false) bs) ++ ys) (r .passed + (recordsMost + 2)) k),
+        )
 
 -- an open call that does not pause waits or refuses
 open-stop : (x : Stop) → (x ≡ Pause → ⊥) → (x ≡ Complete → ⊥) → (Waits x → ⊥) → Refuses x

@@ -6,24 +6,28 @@ use mathlib.Core.List.{List, [], _++_}
 use native.Mathlib.Omega.{arith}
 use Rattle.words.specs.declared.Refusal.{Refusal}
 use Rattle.words.specs.Words.{twoAt, fourAt, placeOf}
-use Rattle.decimal.specs.Scan.{written, decimalOf, numberOf, mantissaOf, exponentOf}
+use Rattle.digits.specs.Segments.{mantissaOf, exponentOf}
+use Rattle.decimal.specs.Scan.{written, decimalOf, numberIn}
 use Rattle.fields.specs.Field.{fieldAt}
 use Rattle.plan.specs.Tables.{slotOf, otherCodes}
-use Rattle.plan.specs.Plan.{totalOf, sumOf, runCounts, runLengths, firstLength, spotOf, spotFrom, codesOf, allZero, zeroPlan?, planGood, imageGood, volumeGood, leaderGood, slotsGood}
+use Rattle.plan.specs.Plan.{totalOf, sumOf, runCounts, runLengths, firstLength, spotOf, spotFrom, codesOf, allZero, zeroPlan?, planGood, imageGood, firstCodes}
+use Rattle.plan.specs.Plan.{volumeGood, leaderGood, slotsGood}
 use Rattle.verdicts.specs.Tests.{firstFault, textAt}
-use Rattle.checks.specs.Parts.{numbersTests}
+use Rattle.verdicts.specs.Numbers.{numbersTests}
+use Rattle.volume.specs.Volume.{volumeRecord}
 use Rattle.leader.specs.Leader.{leaderRecord}
-use Rattle.image.specs.Image.{imageRecord, imageTests, agreements, lineTests}
-use Rattle.bodies.specs.Bodies.{bodyOf, bodyTests, volumeRecord, trailerTests}
+use Rattle.image.specs.Image.{imageRecord, imageTests, lineTests, agreeTests}
+use Rattle.bodies.specs.Bodies.{bodyOf, bodyTests, trailerTests}
 use Rattle.bodies.specs.Named.{planOf}
-use Rattle.walk.specs.Rule.{fresh, goodState}
+use Rattle.walk.specs.State.{fresh, goodState}
 use Rattle.headers.specs.Header.{headerOf, headerTests, codesAre}
 use Rattle.turns.specs.Turn.{judgeOf, endedOf, shortOf}
-use Rattle.walk.specs.Turn.{walkOf, nextOf, badStop}
+use Rattle.walk.specs.Walk.{walkOf, nextOf, badStop}
 use Rattle.turns.specs.declared.Stop.{Stop}
 use Rattle.turns.specs.declared.Stop.the-variants.{Complete}
 use Rattle.walk.specs.declared.Walked.{Walked}
-use Rattle.promises.specs.Rules.{image, trailer, Accepted}
+use Rattle.promises.specs.Rules.{image, trailer}
+use Rattle.promises.specs.Newest.{Accepted}
 use Rattle.promises.specs.Examples.{descriptor, line, listed}
 use Rattle.promises.specs.Demands.{Walk, plannedTotal, Demand2, Counted, refuser, waiter, fixed, waver, boaster}
 use Rattle.promises.proofs.Accepts.{accepts, complete-accepted}
@@ -38,7 +42,10 @@ ours-counted n st bs c = counted n st bs c
 
 -- the listed image is an accepted file, and the empty file is no trailer
 listed-complete : walkOf 4 (fresh 3) listed true .stop ≡ Complete
-unfolding written decimalOf numberOf mantissaOf exponentOf twoAt fourAt placeOf fieldAt slotOf otherCodes totalOf sumOf runCounts runLengths firstLength spotOf spotFrom codesOf allZero zeroPlan? planGood imageGood volumeGood leaderGood slotsGood firstFault textAt bodyOf bodyTests imageRecord imageTests numbersTests agreements lineTests volumeRecord leaderRecord trailerTests planOf goodState walkOf judgeOf headerOf headerTests codesAre endedOf shortOf nextOf badStop
+unfolding written decimalOf numberIn mantissaOf exponentOf twoAt fourAt placeOf fieldAt slotOf otherCodes totalOf sumOf runCounts runLengths
+    firstLength spotOf spotFrom codesOf firstCodes allZero zeroPlan? planGood imageGood volumeGood leaderGood slotsGood firstFault textAt bodyOf bodyTests
+    imageRecord imageTests numbersTests agreeTests lineTests volumeRecord leaderRecord trailerTests planOf goodState walkOf judgeOf headerOf
+    headerTests codesAre endedOf shortOf nextOf badStop
 listed-complete = refl
 
 pub listed-accepted : Accepted image listed
@@ -46,7 +53,7 @@ listed-accepted = complete-accepted image listed 4 listed-complete
 
 -- four is above the three records that it plans
 listed-planned : plannedTotal image listed < 4
-unfolding written decimalOf numberOf mantissaOf exponentOf twoAt fourAt placeOf fieldAt totalOf sumOf runCounts firstLength planOf
+unfolding written decimalOf numberIn mantissaOf exponentOf twoAt fourAt placeOf fieldAt totalOf sumOf runCounts firstLength planOf
 listed-planned = omega arith
 
 -- a walk that never says complete fails demand 2
@@ -80,15 +87,21 @@ wrong : List ℕ
 wrong = descriptor "     2" ++ line 1 0 3 0 ++ line 7 1 2 0
 
 wrong-refused : walkOf 4 (fresh 3) wrong true .stop ≡ Complete → ⊥
-unfolding wrong written decimalOf numberOf mantissaOf exponentOf twoAt fourAt placeOf fieldAt slotOf otherCodes totalOf sumOf runCounts runLengths firstLength spotOf spotFrom codesOf allZero zeroPlan? planGood imageGood volumeGood leaderGood slotsGood firstFault textAt bodyOf bodyTests imageRecord imageTests numbersTests agreements lineTests volumeRecord leaderRecord trailerTests planOf goodState walkOf judgeOf headerOf headerTests codesAre endedOf shortOf nextOf badStop
+unfolding wrong written decimalOf numberIn mantissaOf exponentOf twoAt fourAt placeOf fieldAt slotOf otherCodes totalOf sumOf runCounts runLengths
+    firstLength spotOf spotFrom codesOf firstCodes allZero zeroPlan? planGood imageGood volumeGood leaderGood slotsGood firstFault textAt bodyOf bodyTests
+    imageRecord imageTests numbersTests agreeTests lineTests volumeRecord leaderRecord trailerTests planOf goodState walkOf judgeOf headerOf
+    headerTests codesAre endedOf shortOf nextOf badStop
 wrong-refused e = let z : _≡_ {A = ℕ} 0 1 = cc in omega arith
 
 wrong-planned : plannedTotal image wrong < 4
-unfolding wrong written decimalOf numberOf mantissaOf exponentOf twoAt fourAt placeOf fieldAt totalOf sumOf runCounts firstLength planOf
+unfolding wrong written decimalOf numberIn mantissaOf exponentOf twoAt fourAt placeOf fieldAt totalOf sumOf runCounts firstLength planOf
 wrong-planned = omega arith
 
 wrong-waved : waver 4 (fresh 3) wrong true .stop ≡ Complete
-unfolding wrong waver written decimalOf numberOf mantissaOf exponentOf twoAt fourAt placeOf fieldAt slotOf otherCodes totalOf sumOf runCounts runLengths firstLength spotOf spotFrom codesOf allZero zeroPlan? planGood imageGood volumeGood leaderGood slotsGood firstFault textAt bodyOf bodyTests imageRecord imageTests numbersTests agreements lineTests volumeRecord leaderRecord trailerTests planOf goodState walkOf judgeOf headerOf headerTests codesAre endedOf shortOf nextOf badStop
+unfolding wrong waver written decimalOf numberIn mantissaOf exponentOf twoAt fourAt placeOf fieldAt slotOf otherCodes totalOf sumOf runCounts
+    runLengths firstLength spotOf spotFrom codesOf firstCodes allZero zeroPlan? planGood imageGood volumeGood leaderGood slotsGood firstFault textAt bodyOf
+    bodyTests imageRecord imageTests numbersTests agreeTests lineTests volumeRecord leaderRecord trailerTests planOf goodState walkOf judgeOf headerOf
+    headerTests codesAre endedOf shortOf nextOf badStop
 wrong-waved = refl
 
 pub lines-waved-through : Demand2 waver → ⊥

@@ -1,5 +1,6 @@
--- Demand 3 bites: our walk meets it, a walk that always waits fails it on a whole record that no file begins with, and one that always refuses or always pauses fails it on the empty file.
-use Prim.Native.Nat.{ℕ, _<_}
+-- Demand 3 bites: our walk meets it, a walk that always waits fails it on a whole record that no file begins with, and one that always refuses or
+-- always pauses fails it on the empty file.
+use Prim.Native.Nat.{ℕ, _<_, _+_}
 use mathlib.Core.Path.{_≡_, refl}
 use mathlib.Core.Bool.{true, false}
 use mathlib.Core.List.{List, [], _∷_}
@@ -8,12 +9,12 @@ use native.Mathlib.Omega.{arith}
 use Rattle.words.specs.declared.Refusal.{Refusal}
 use Rattle.words.specs.Words.{twoAt, fourAt, placeOf}
 use Rattle.plan.specs.Tables.{otherCodes}
-use Rattle.plan.specs.Plan.{totalOf, sumOf, runCounts, runLengths, firstLength, spotOf, codesOf, allZero, zeroPlan?}
+use Rattle.plan.specs.Plan.{totalOf, sumOf, runCounts, runLengths, firstLength, spotOf, codesOf, allZero, zeroPlan?, recordsMost, firstCodes}
 use Rattle.verdicts.specs.Tests.{firstFault}
-use Rattle.walk.specs.Rule.{fresh, goodState}
+use Rattle.walk.specs.State.{fresh, goodState}
 use Rattle.headers.specs.Header.{headerOf, headerTests}
 use Rattle.turns.specs.Turn.{judgeOf}
-use Rattle.walk.specs.Turn.{walkOf}
+use Rattle.walk.specs.Walk.{walkOf}
 use Rattle.turns.specs.declared.Stop.the-variants.{Pause, Complete}
 use Rattle.promises.specs.Rules.{trailer}
 use Rattle.promises.specs.Arriving.{begun, Starts, Waits, Refuses, AtRecordEnd}
@@ -38,7 +39,8 @@ unfolding strange fourAt twoAt placeOf
 strange-end = (strange ∷ [], refl, (omega arith, (inl refl, tt)))
 
 strange-refused : Refuses (walkOf 9 (fresh 4) strange false .stop)
-unfolding strange fourAt twoAt placeOf otherCodes totalOf sumOf runCounts runLengths firstLength spotOf codesOf allZero zeroPlan? goodState walkOf judgeOf headerOf headerTests firstFault
+unfolding strange fourAt twoAt placeOf otherCodes totalOf sumOf runCounts runLengths firstLength spotOf codesOf firstCodes allZero zeroPlan? goodState walkOf
+    judgeOf headerOf headerTests firstFault
 strange-refused = (record { number = 3; «record» = 1; place = 0 }, refl)
 
 strange-none : Starts trailer strange → ⊥
@@ -51,8 +53,8 @@ always-waiting-open m d = strange-none (d trailer strange 9 (inr (λ e. let z : 
 empty-starts : Starts trailer []
 empty-starts = go (some-file 4 (omega arith) (omega arith))
   where
-    go : (ys : List ℕ) × Bytes ys × ((n : ℕ) → 17000001 < n → walkOf n (fresh 4) ys true .stop ≡ Complete) → Starts trailer []
-    go (ys, by, c) = (ys, by, complete-accepted trailer ys 17000002 (c 17000002 (omega arith)))
+    go : (ys : List ℕ) × Bytes ys × ((n : ℕ) → recordsMost + 1 < n → walkOf n (fresh 4) ys true .stop ≡ Complete) → Starts trailer []
+    go (ys, by, c) = (ys, by, complete-accepted trailer ys (recordsMost + 2) (c (recordsMost + 2) (omega arith)))
 
 pub always-refusing-open : (r : Refusal) → Demand3 (refuser r) → ⊥
 always-refusing-open r d =

@@ -5,20 +5,23 @@ use mathlib.Core.List.{List, [], _∷_}
 use native.Mathlib.Omega.{arith}
 use lib.ListN.{getD}
 use Rattle.words.specs.Words.{twoAt, fourAt, placeOf}
-use Rattle.decimal.specs.Scan.{written, decimalOf, numberOf, mantissaOf, exponentOf}
+use Rattle.digits.specs.Segments.{mantissaOf, exponentOf}
+use Rattle.decimal.specs.Scan.{written, decimalOf, numberIn}
 use Rattle.fields.specs.Field.{fieldAt}
 use Rattle.plan.specs.Tables.{slotOf, otherCodes}
-use Rattle.plan.specs.Plan.{group, totalOf, sumOf, runCounts, runLengths, firstLength, spotOf, spotFrom, codesOf, allZero, zeroPlan?, planGood, imageGood, volumeGood, leaderGood, slotsGood}
+use Rattle.plan.specs.Plan.{group, totalOf, sumOf, runCounts, runLengths, firstLength, spotOf, spotFrom, codesOf, allZero, zeroPlan?, planGood, firstCodes}
+use Rattle.plan.specs.Plan.{imageGood, volumeGood, leaderGood, slotsGood}
 use Rattle.verdicts.specs.Tests.{firstFault, textAt}
-use Rattle.checks.specs.Parts.{numbersTests}
+use Rattle.verdicts.specs.Numbers.{numbersTests}
+use Rattle.volume.specs.Volume.{volumeRecord}
 use Rattle.leader.specs.Leader.{leaderRecord}
-use Rattle.image.specs.Image.{imageRecord, imageTests, agreements, lineTests}
-use Rattle.bodies.specs.Bodies.{bodyOf, bodyTests, volumeRecord, trailerTests}
+use Rattle.image.specs.Image.{imageRecord, imageTests, lineTests, agreeTests}
+use Rattle.bodies.specs.Bodies.{bodyOf, bodyTests, trailerTests}
 use Rattle.bodies.specs.Named.{planOf}
-use Rattle.walk.specs.Rule.{goodState}
+use Rattle.walk.specs.State.{goodState}
 use Rattle.headers.specs.Header.{headerOf, headerTests, codesAre}
 use Rattle.turns.specs.Turn.{judgeOf, endedOf, shortOf}
-use Rattle.walk.specs.Turn.{walkOf, nextOf, badStop}
+use Rattle.walk.specs.Walk.{walkOf, nextOf, badStop}
 use Rattle.lines.specs.View.{shownOf, foundIn, lineAt, lineOf, viewOf}
 use Rattle.copies.specs.Row.{samplesFrom, rowOf}
 use Rattle.lines.specs.declared.View.the-variants.{Shown}
@@ -37,11 +40,17 @@ ours-keeps = row-kept
 
 -- line 1 of the listed image: three pixels, all 0
 listed-shown : viewOf group listed 1 ≡ Shown 912 3 0
-unfolding written decimalOf numberOf mantissaOf exponentOf twoAt fourAt placeOf fieldAt slotOf otherCodes totalOf sumOf runCounts runLengths firstLength spotOf spotFrom codesOf allZero zeroPlan? planGood imageGood volumeGood leaderGood slotsGood firstFault textAt bodyOf bodyTests imageRecord imageTests numbersTests agreements lineTests volumeRecord leaderRecord trailerTests planOf goodState walkOf judgeOf headerOf headerTests codesAre endedOf shortOf nextOf badStop shownOf foundIn lineAt lineOf viewOf
+unfolding written decimalOf numberIn mantissaOf exponentOf twoAt fourAt placeOf fieldAt slotOf otherCodes totalOf sumOf runCounts runLengths
+    firstLength spotOf spotFrom codesOf firstCodes allZero zeroPlan? planGood imageGood volumeGood leaderGood slotsGood firstFault textAt bodyOf bodyTests
+    imageRecord imageTests numbersTests agreeTests lineTests volumeRecord leaderRecord trailerTests planOf goodState walkOf judgeOf headerOf
+    headerTests codesAre endedOf shortOf nextOf badStop shownOf foundIn lineAt lineOf viewOf
 listed-shown = refl
 
 listed-row : rowOf listed 1 (7 ∷ 7 ∷ 7 ∷ []) ≡ 0 ∷ 0 ∷ 0 ∷ []
-unfolding written decimalOf numberOf mantissaOf exponentOf twoAt fourAt placeOf fieldAt slotOf otherCodes totalOf sumOf runCounts runLengths firstLength spotOf spotFrom codesOf allZero zeroPlan? planGood imageGood volumeGood leaderGood slotsGood firstFault textAt bodyOf bodyTests imageRecord imageTests numbersTests agreements lineTests volumeRecord leaderRecord trailerTests planOf goodState walkOf judgeOf headerOf headerTests codesAre endedOf shortOf nextOf badStop shownOf foundIn lineAt lineOf viewOf samplesFrom rowOf
+unfolding written decimalOf numberIn mantissaOf exponentOf twoAt fourAt placeOf fieldAt slotOf otherCodes totalOf sumOf runCounts runLengths
+    firstLength spotOf spotFrom codesOf firstCodes allZero zeroPlan? planGood imageGood volumeGood leaderGood slotsGood firstFault textAt bodyOf bodyTests
+    imageRecord imageTests numbersTests agreeTests lineTests volumeRecord leaderRecord trailerTests planOf goodState walkOf judgeOf headerOf
+    headerTests codesAre endedOf shortOf nextOf badStop shownOf foundIn lineAt lineOf viewOf samplesFrom rowOf
 listed-row = refl
 
 -- a row copy that writes nothing leaves the sevens

@@ -1,4 +1,5 @@
--- The body of a record behind the first has no fault exactly where it holds what `Rules` asks of it: pointer, summary, map and line, test by test; of the others nothing is asked.
+-- The body of a record behind the first has no fault exactly where it holds what `Rules` asks of it: pointer, summary, map and line, test by test; of
+-- the others nothing is asked.
 use Prim.Native.Nat.{ℕ, zero, suc, _+_, _*_}
 use mathlib.Core.Path.{_≡_, refl, sym, ap, _∙_}
 use mathlib.Core.List.{List}
@@ -14,14 +15,16 @@ use Rattle.decimal.specs.Text.{bytes}
 use Rattle.decimal.specs.declared.Form.the-variants.{I8, I16, F8d3, F16d7, E20d13}
 use Rattle.plan.specs.declared.Plan.{Plan}
 use Rattle.verdicts.specs.Tests.{firstFault, textAt}
-use Rattle.checks.specs.Parts.{at, numberAt, numbersTests}
+use Rattle.verdicts.specs.Numbers.{at, numberAt, numbersTests}
+use Rattle.volume.specs.Volume.{classText, pointerTests, volumeRecord}
 use Rattle.leader.specs.Leader.{fieldsTests, leaderRecord}
 use Rattle.image.specs.Image.{lineTests, imageRecord}
-use Rattle.bodies.specs.Bodies.{classText, pointerTests, bodyOf, bodyTests, volumeRecord}
+use Rattle.bodies.specs.Bodies.{bodyOf, bodyTests}
 use Rattle.verdicts.specs.declared.Verdict.the-variants.{Fine}
 use Rattle.verdicts.proofs.Holding.{Holds, fine-holds, holds-fine, number-holds}
-use Rattle.promises.specs.Rules.{Kind, volume, leader, image, trailer, kindNumber, Readable, Pointer, classOf, Summary, Map, Line, free}
-use Rattle.promises.proofs.Each.{each-at}
+use Rattle.promises.specs.Rules.{Kind, volume, leader, image, trailer, kindNumber, classOf, Line, free}
+use Rattle.promises.specs.Newest.{Readable, Pointer, Summary, Map}
+use Rattle.promises.proofs.Each.{each-at, next}
 use Rattle.promises.proofs.Parts.{text-is, number-is, readable-is}
 
 -- ---- pointers
@@ -31,7 +34,8 @@ unfolding classText
 class-is m k = go (eqb k 1) (eqb k m)
   where
     go : (a b : Bool)
-        → (pick a (bytes "SARL") (pick b (bytes "SART") (bytes "IMOP")) ≡ bytes (pick a "SARL" (pick b "SART" "IMOP"))) × (length (bytes (pick a "SARL" (pick b "SART" "IMOP"))) ≡ 4)
+        → (pick a (bytes "SARL") (pick b (bytes "SART") (bytes "IMOP")) ≡ bytes (pick a "SARL" (pick b "SART" "IMOP")))
+        × (length (bytes (pick a "SARL" (pick b "SART" "IMOP"))) ≡ 4)
     go true b = (refl, refl)
     go false true = (refl, refl)
     go false false = (refl, refl)
@@ -72,51 +76,26 @@ summary-is k r size = (
         three = readable-is r 743 F16d7 (omega arith) .0 (h .1 .1 .0);
         four = readable-is r 935 F16d7 (omega arith) .0 (h .1 .1 .1 .0);
         six = λ i l.
-            each-at (λ (i : ℕ). Readable r (1887 + 20 * i) E20d13) 0 6 (
-              readable-is r 1887 E20d13 (omega arith) .0 (h .1 .1 .1 .1 .0),
-              (
-                readable-is r 1907 E20d13 (omega arith) .0 (h .1 .1 .1 .1 .1 .0),
-                (
-                  readable-is r 1927 E20d13 (omega arith) .0 (h .1 .1 .1 .1 .1 .1 .0),
-                  (
-                    readable-is r 1947 E20d13 (omega arith) .0 (h .1 .1 .1 .1 .1 .1 .1 .0),
-                    (
-                      readable-is r 1967 E20d13 (omega arith) .0 (h .1 .1 .1 .1 .1 .1 .1 .1 .0),
-                      (readable-is r 1987 E20d13 (omega arith) .0 (h .1 .1 .1 .1 .1 .1 .1 .1 .1 .0), tt),
-                    ),
-                  ),
-                ),
-              ),
-            ) i (omega arith) (omega arith);
+            each-at (λ (i : ℕ). Readable r (1887 + 20 * i) E20d13) 0 6
+            (next (readable-is r 1887 E20d13 (omega arith) .0 (h .1 .1 .1 .1 .0))
+            (next (readable-is r 1907 E20d13 (omega arith) .0 (h .1 .1 .1 .1 .1 .0))
+            (next (readable-is r 1927 E20d13 (omega arith) .0 (h .1 .1 .1 .1 .1 .1 .0))
+            (next (readable-is r 1947 E20d13 (omega arith) .0 (h .1 .1 .1 .1 .1 .1 .1 .0))
+            (next (readable-is r 1967 E20d13 (omega arith) .0 (h .1 .1 .1 .1 .1 .1 .1 .1 .0))
+            (next (readable-is r 1987 E20d13 (omega arith) .0 (h .1 .1 .1 .1 .1 .1 .1 .1 .1 .0)) tt))))))
+            i (omega arith) (omega arith);
       },
-  λ s. (
-    readable-is r 477 F8d3 (omega arith) .1 (s .one),
-    (
-      readable-is r 711 F16d7 (omega arith) .1 (s .two),
-      (
-        readable-is r 743 F16d7 (omega arith) .1 (s .three),
-        (
-          readable-is r 935 F16d7 (omega arith) .1 (s .four),
-          (
-            readable-is r 1887 E20d13 (omega arith) .1 (s .six 0 (omega arith)),
-            (
-              readable-is r 1907 E20d13 (omega arith) .1 (s .six 1 (omega arith)),
-              (
-                readable-is r 1927 E20d13 (omega arith) .1 (s .six 2 (omega arith)),
-                (
-                  readable-is r 1947 E20d13 (omega arith) .1 (s .six 3 (omega arith)),
-                  (
-                    readable-is r 1967 E20d13 (omega arith) .1 (s .six 4 (omega arith)),
-                    (readable-is r 1987 E20d13 (omega arith) .1 (s .six 5 (omega arith)), tt),
-                  ),
-                ),
-              ),
-            ),
-          ),
-        ),
-      ),
-    ),
-  ),
+  λ s.
+      next (readable-is r 477 F8d3 (omega arith) .1 (s .one))
+      (next (readable-is r 711 F16d7 (omega arith) .1 (s .two))
+      (next (readable-is r 743 F16d7 (omega arith) .1 (s .three))
+      (next (readable-is r 935 F16d7 (omega arith) .1 (s .four))
+      (next (readable-is r 1887 E20d13 (omega arith) .1 (s .six 0 (omega arith)))
+      (next (readable-is r 1907 E20d13 (omega arith) .1 (s .six 1 (omega arith)))
+      (next (readable-is r 1927 E20d13 (omega arith) .1 (s .six 2 (omega arith)))
+      (next (readable-is r 1947 E20d13 (omega arith) .1 (s .six 3 (omega arith)))
+      (next (readable-is r 1967 E20d13 (omega arith) .1 (s .six 4 (omega arith)))
+      (next (readable-is r 1987 E20d13 (omega arith) .1 (s .six 5 (omega arith))) tt))))))))),
 )
 
 map-is : (k : ℕ) (r : List ℕ) → length r ≡ 1620 → Holds (fieldsTests r 10 13) ↔ Map k r
@@ -183,7 +162,8 @@ module _ (p : Plan) (i k : ℕ) (r : List ℕ) where
   unfolding bodyOf bodyTests imageRecord
   of-line = simp (ne-eqb (suc i) 0 (omega arith))
 
-pub body-is : (kind : Kind) (p : Plan) (run k : ℕ) (r : List ℕ) → Long kind run (length r) → (bodyOf (kindNumber kind) run p k r ≡ Fine) ↔ holdsOf kind p run k r
+pub body-is : (kind : Kind) (p : Plan) (run k : ℕ) (r : List ℕ) → Long kind run (length r)
+    → (bodyOf (kindNumber kind) run p k r ≡ Fine) ↔ holdsOf kind p run k r
 unfolding bodyOf bodyTests volumeRecord leaderRecord imageRecord firstFault
 body-is volume p zero k r h = absurd h
 body-is volume p (suc zero) k r h = (

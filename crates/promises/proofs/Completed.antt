@@ -11,7 +11,8 @@ use lib.Seq.{take-length, drop-at}
 use borrow.Author.Tests.{le-leb}
 use Rattle.words.specs.Tests.{pick}
 use Rattle.words.proofs.Laws.{both-make, within-true, true-within}
-use Rattle.plan.specs.Plan.{volume, leader, image, firstLength, totalOf, codesOf, spotOf, planGood, zeroPlan}
+use Rattle.plan.specs.Tables.{rows}
+use Rattle.plan.specs.Plan.{volume, leader, image, firstLength, totalOf, codesOf, spotOf, planGood, zeroPlan, recordsMost, firstCodes, dueOf}
 use Rattle.plan.specs.declared.Plan.{Plan}
 use Rattle.plan.proofs.Bounds.{small-good, total-small}
 use Rattle.bodies.specs.Bodies.{bodyOf}
@@ -19,11 +20,11 @@ use Rattle.leader.specs.Leader.{countsOf, lengthsOf}
 use Rattle.bodies.specs.Named.{planOf}
 use Rattle.verdicts.specs.declared.Verdict.the-variants.{Fine}
 use Rattle.verdicts.specs.declared.Verdict.{Verdict}
-use Rattle.bodies.proofs.First.{first-good}
-use Rattle.walk.specs.Rule.{fresh, goodState, nextSpot}
+use Rattle.bodies.proofs.Named.{first-good}
+use Rattle.walk.specs.State.{fresh, goodState, nextDue}
 use Rattle.headers.specs.Header.{headerOf}
 use Rattle.turns.specs.Turn.{onFine, endedOf}
-use Rattle.walk.specs.Turn.{turnOf, nextOf, walkOf}
+use Rattle.walk.specs.Walk.{turnOf, nextOf, walkOf}
 use Rattle.walk.specs.declared.State.{State}
 use Rattle.turns.specs.declared.Stop.the-variants.{Complete}
 use Rattle.turns.specs.declared.Turn.the-variants.{Pass}
@@ -31,7 +32,7 @@ use Rattle.walk.specs.declared.Walked.{Walked}
 use Rattle.walk.proofs.GoodLaws.{good-known, good-some, good-later, fresh-good}
 use Rattle.walk.proofs.LoopLaws.{walk-halt, walk-pass}
 use Rattle.turns.proofs.TurnLaws.{judge-ended, judge-body, one-total}
-use Rattle.walk.proofs.TurnLaws.{next-as-first, next-as-later}
+use Rattle.walk.proofs.TurnLaws.{next-as-later}
 use Rattle.promises.specs.Bytes.{Bytes}
 use Rattle.promises.proofs.Turns.{turn-pass-stays, next-stays}
 use Rattle.promises.proofs.Made.{bytes-join}
@@ -45,7 +46,7 @@ pub record Done (m : ℕ) (st : State) : Type 0 where
   pub complete : (n : ℕ) → walkOf (m + n) st rest true .stop ≡ Complete
 
 -- a record that passes, before bytes that complete the state behind it
-module _ (st : State) (g : goodState st ≡ true) (r : List ℕ) (b : Bytes r) (e : length r ≡ nextSpot st .length) where
+module _ (st : State) (g : goodState st ≡ true) (r : List ℕ) (b : Bytes r) (e : length r ≡ nextDue st .length) where
   one-more : turnOf st r false ≡ Pass → (m : ℕ) → Done m (nextOf st r) → Done (suc m) st
   one-more t m d =
       record {
@@ -55,26 +56,26 @@ module _ (st : State) (g : goodState st ≡ true) (r : List ℕ) (b : Bytes r) (
             λ n.
             rw suc-add
             (ap (λ (w : Walked). w .stop) (walk-pass st (r ++ d .rest) true (m + n) g (turn-pass-stays st r (d .rest) true t))
-            ∙ ap (λ (s : State). walkOf (m + n) s (drop (nextSpot st .length) (r ++ d .rest)) true .stop) (next-stays st r (d .rest) t)
-            ∙ ap (λ (y : List ℕ). walkOf (m + n) (nextOf st r) y true .stop) (drop-at r (d .rest) (nextSpot st .length) e)
+            ∙ ap (λ (s : State). walkOf (m + n) s (drop (nextDue st .length) (r ++ d .rest)) true .stop) (next-stays st r (d .rest) t)
+            ∙ ap (λ (y : List ℕ). walkOf (m + n) (nextOf st r) y true .stop) (drop-at r (d .rest) (nextDue st .length) e)
             ∙ d .complete n);
       }
 
   passes : st .passed < totalOf (st .kind) (st .plan) → 12 ≤ length r
-      → headerOf (st .passed + 1) (codesOf (st .kind) (nextSpot st .run)) (nextSpot st .length) r ≡ Fine
-      → bodyOf (st .kind) (nextSpot st .run) (st .plan) (st .passed) r ≡ Fine → turnOf st r false ≡ Pass
+      → headerOf (st .passed + 1) (nextDue st .codes) (nextDue st .length) r ≡ Fine
+      → bodyOf (st .kind) (nextDue st .run) (st .plan) (st .passed) r ≡ Fine → turnOf st r false ≡ Pass
   passes going twelve h f =
-      judge-body (st .kind) (st .plan) (st .passed) (nextSpot st) r false going twelve h (omega arith)
-      ∙ ap (λ (y : List ℕ). onFine (bodyOf (st .kind) (nextSpot st .run) (st .plan) (st .passed) y) (st .passed + 1) (nextSpot st .start) Pass)
+      judge-body (st .kind) (st .plan) (st .passed) (nextDue st) r false going twelve h (omega arith)
+      ∙ ap (λ (y : List ℕ). onFine (bodyOf (st .kind) (nextDue st .run) (st .plan) (st .passed) y) (st .passed + 1) (nextDue st .start) Pass)
       (ap (λ (n : ℕ). take n r) (sym e) ∙ take-length r)
-      ∙ ap (λ (v : Verdict). onFine v (st .passed + 1) (nextSpot st .start) Pass) f
+      ∙ ap (λ (v : Verdict). onFine v (st .passed + 1) (nextDue st .start) Pass) f
 
 -- ---- behind the first record
 
 abbrev at : ℕ → Plan → ℕ → State
 at kind p k = record { kind = kind; passed = k; plan = p }
 
-module _ (kind : ℕ) (p : Plan) (a : 1 ≤ kind) (b : kind ≤ 4) (g : planGood kind p ≡ true) (c : length (p .counts) ≡ 17) (l : length (p .lengths) ≡ 17) where
+module _ (kind : ℕ) (p : Plan) (a : 1 ≤ kind) (b : kind ≤ 4) (g : planGood kind p ≡ true) (c : length (p .counts) ≡ rows) (l : length (p .lengths) ≡ rows) where
   at-good : (k : ℕ) → 1 ≤ k → k ≤ totalOf kind p → goodState (at kind p k) ≡ true
   at-good k h m = good-some (at kind p k) (λ z. omega arith) ∙ both-make _ _ (true-within 1 kind 4 a b) (both-make _ _ g (le-leb _ _ m))
 
@@ -88,15 +89,16 @@ module _ (kind : ℕ) (p : Plan) (a : 1 ≤ kind) (b : kind ≤ 4) (g : planGood
             λ n.
             rw suc-add
             (ap (λ (w : Walked). w .stop)
-            (walk-halt (at kind p k) [] true (0 + n) Complete (at-good k h (omega arith)) (judge-ended kind p k (spotOf kind p k) [] true (omega arith))));
+            (walk-halt (at kind p k) [] true (0 + n) Complete (at-good k h (omega arith)) (judge-ended kind p k (dueOf kind p k) [] true (omega arith))));
       }
 
   at-later : (d k : ℕ) → 1 ≤ k → k + d ≡ totalOf kind p → Done (suc d) (at kind p k)
   at-later zero k h e = at-end k h (omega arith)
   at-later (suc d) k h e = go (later-some kind p k a b g c l h (omega arith)) (at-later d (k + 1) (omega arith) (omega arith))
     where
-      go : (r : List ℕ) × Bytes r × (length r ≡ spotOf kind p k .length) × (headerOf (k + 1) (codesOf kind (spotOf kind p k .run)) (spotOf kind p k .length) r ≡ Fine)
-          × (bodyOf kind (spotOf kind p k .run) p k r ≡ Fine) → Done (suc d) (at kind p (k + 1)) → Done (suc (suc d)) (at kind p k)
+      go : (r : List ℕ) × Bytes r × (length r ≡ dueOf kind p k .length)
+          × (headerOf (dueOf kind p k .ordinal) (dueOf kind p k .codes) (dueOf kind p k .length) r ≡ Fine)
+          × (bodyOf kind (dueOf kind p k .run) p k r ≡ Fine) → Done (suc d) (at kind p (k + 1)) → Done (suc (suc d)) (at kind p k)
       go (r, y, z, i, f) x =
           let st = at kind p k in
           let gs = at-good k h (omega arith) in
@@ -107,21 +109,23 @@ module _ (kind : ℕ) (p : Plan) (a : 1 ≤ kind) (b : kind ≤ 4) (g : planGood
 -- ---- a fresh state: a first record, and what the plan that it names promises
 
 module _ (kind : ℕ) (r : List ℕ) where
-  pub named-counts : length (planOf kind r .counts) ≡ 17
+  pub named-counts : length (planOf kind r .counts) ≡ rows
   unfolding planOf countsOf
   named-counts = go (eqb kind volume) (eqb kind leader) (eqb kind image) (planOf 1 r) (planOf 2 r) (planOf 3 r) refl refl refl
     where
-      go : (x y z : Bool) (u v w : Plan) → length (u .counts) ≡ 17 → length (v .counts) ≡ 17 → length (w .counts) ≡ 17 → length (pick x u (pick y v (pick z w zeroPlan)) .counts) ≡ 17
+      go : (x y z : Bool) (u v w : Plan) → length (u .counts) ≡ rows → length (v .counts) ≡ rows → length (w .counts) ≡ rows
+          → length (pick x u (pick y v (pick z w zeroPlan)) .counts) ≡ rows
       go true y z u v w i j k = i
       go false true z u v w i j k = j
       go false false true u v w i j k = k
       go false false false u v w i j k = refl
 
-  pub named-lengths : length (planOf kind r .lengths) ≡ 17
+  pub named-lengths : length (planOf kind r .lengths) ≡ rows
   unfolding planOf lengthsOf
   named-lengths = go (eqb kind volume) (eqb kind leader) (eqb kind image) (planOf 1 r) (planOf 2 r) (planOf 3 r) refl refl refl
     where
-      go : (x y z : Bool) (u v w : Plan) → length (u .lengths) ≡ 17 → length (v .lengths) ≡ 17 → length (w .lengths) ≡ 17 → length (pick x u (pick y v (pick z w zeroPlan)) .lengths) ≡ 17
+      go : (x y z : Bool) (u v w : Plan) → length (u .lengths) ≡ rows → length (v .lengths) ≡ rows → length (w .lengths) ≡ rows
+          → length (pick x u (pick y v (pick z w zeroPlan)) .lengths) ≡ rows
       go true y z u v w i j k = i
       go false true z u v w i j k = j
       go false false true u v w i j k = k
@@ -137,14 +141,14 @@ module _ (kind : ℕ) (r : List ℕ) where
 
 -- some bytes and the budget that they need, no more than the most that a plan can promise, and one
 abbrev pub Enough : State → Type 0
-Enough st = (m : ℕ) × (m ≤ 17000002) × Done m st
+Enough st = (m : ℕ) × (m ≤ recordsMost + 2) × Done m st
 
 module _ (kind : ℕ) (p : Plan) (a : 1 ≤ kind) (b : kind ≤ 4) where
   from-first : goodState (at kind p 0) ≡ true → Enough (at kind p 0)
-  unfolding spotOf
+  unfolding spotOf codesOf nextOf
   from-first g = go (first-some kind a b)
     where
-      go : (r : List ℕ) × Bytes r × (length r ≡ firstLength kind) × ((q : Plan) → headerOf 1 (codesOf kind 0) (firstLength kind) r ≡ Fine)
+      go : (r : List ℕ) × Bytes r × (length r ≡ firstLength kind) × ((q : Plan) → headerOf 1 (firstCodes kind) (firstLength kind) r ≡ Fine)
           × ((q : Plan) → bodyOf kind 0 q 0 r ≡ Fine) → Enough (at kind p 0)
       go (r, y, z, i, f) =
           let st = at kind p 0 in
@@ -157,17 +161,17 @@ module _ (kind : ℕ) (p : Plan) (a : 1 ≤ kind) (b : kind ≤ 4) where
             suc (suc d),
             omega arith,
             one-more st g r y z t (suc d)
-                (subst (λ (s : State). Done (suc d) s) (next-as-first st r q refl e)
+                (subst (λ (s : State). Done (suc d) s) (ap (λ (x : Plan). at kind x 1) e)
                 (at-later kind q a b gq (named-counts kind r) (named-lengths kind r) d 1 (omega arith) (omega (arith, one-total kind q)))),
           )
 
-  from-later : (k : ℕ) → length (p .counts) ≡ 17 → length (p .lengths) ≡ 17 → goodState (at kind p (suc k)) ≡ true → Enough (at kind p (suc k))
+  from-later : (k : ℕ) → length (p .counts) ≡ rows → length (p .lengths) ≡ rows → goodState (at kind p (suc k)) ≡ true → Enough (at kind p (suc k))
   from-later k c l g =
       let h = good-later (at kind p (suc k)) g (λ z. omega arith) in
       let small = total-small kind p c (small-good kind p (h .0)) in
       (suc (totalOf kind p - suc k), omega arith, at-later kind p a b (h .0) c l (totalOf kind p - suc k) (suc k) (omega arith) (omega (arith, h .1)))
 
-pub enough-some : (st : State) → goodState st ≡ true → length (st .plan .counts) ≡ 17 → length (st .plan .lengths) ≡ 17 → Enough st
+pub enough-some : (st : State) → goodState st ≡ true → length (st .plan .counts) ≡ rows → length (st .plan .lengths) ≡ rows → Enough st
 enough-some st g c l = go (st .passed) g
   where
     known : (1 ≤ st .kind) × (st .kind ≤ 4)
@@ -177,12 +181,12 @@ enough-some st g c l = go (st .passed) g
     go zero h = from-first (st .kind) (st .plan) (known .0) (known .1) h
     go (suc k) h = from-later (st .kind) (st .plan) (known .0) (known .1) k c l h
 
--- any good state: some bytes complete it, with any budget above 17,000,001, the most that a plan can promise
-pub completes : (st : State) → goodState st ≡ true → length (st .plan .counts) ≡ 17 → length (st .plan .lengths) ≡ 17
-    → (ys : List ℕ) × Bytes ys × ((n : ℕ) → 17000001 < n → walkOf n st ys true .stop ≡ Complete)
+-- any good state: some bytes complete it, with any budget above the most that a plan can promise
+pub completes : (st : State) → goodState st ≡ true → length (st .plan .counts) ≡ rows → length (st .plan .lengths) ≡ rows
+    → (ys : List ℕ) × Bytes ys × ((n : ℕ) → recordsMost + 1 < n → walkOf n st ys true .stop ≡ Complete)
 completes st g c l = go (enough-some st g c l)
   where
-    go : Enough st → (ys : List ℕ) × Bytes ys × ((n : ℕ) → 17000001 < n → walkOf n st ys true .stop ≡ Complete)
+    go : Enough st → (ys : List ℕ) × Bytes ys × ((n : ℕ) → recordsMost + 1 < n → walkOf n st ys true .stop ≡ Complete)
     go (m, h, d) = (
       d .rest,
       d .bytes,
@@ -190,5 +194,5 @@ completes st g c l = go (enough-some st g c l)
     )
 
 -- so some file of each kind is complete
-pub some-file : (kind : ℕ) → 1 ≤ kind → kind ≤ 4 → (ys : List ℕ) × Bytes ys × ((n : ℕ) → 17000001 < n → walkOf n (fresh kind) ys true .stop ≡ Complete)
+pub some-file : (kind : ℕ) → 1 ≤ kind → kind ≤ 4 → (ys : List ℕ) × Bytes ys × ((n : ℕ) → recordsMost + 1 < n → walkOf n (fresh kind) ys true .stop ≡ Complete)
 some-file kind a b = completes (fresh kind) (fresh-good kind a b) refl refl

@@ -6,15 +6,16 @@ use mathlib.Core.List.{List}
 use mathlib.Core.Bool.{Bool, true, false}
 use native.Mathlib.Omega.{arith}
 use Rattle.words.specs.declared.Refusal.{Refusal}
-use Rattle.walk.specs.Rule.{goodState}
-use Rattle.walk.specs.Turn.{badStop, walkOf}
+use Rattle.walk.specs.State.{goodState}
+use Rattle.walk.specs.Walk.{badStop, walkOf}
 use Rattle.walk.specs.declared.State.{State}
 use Rattle.turns.specs.declared.Stop.the-variants.{Wait, Pause, Complete, Refused}
 use Rattle.turns.specs.declared.Turn.the-variants.{Halt}
 use Rattle.walk.proofs.LoopLaws.{walk-bad}
 use Rattle.walk.proofs.TurnLaws.{next-passed}
 use Rattle.promises.proofs.Steps.{by-turns}
-use Rattle.promises.proofs.Turns.{open-turn, turn-ordinal, never-pause, pause≢complete, pause≢refused, refused≢pause, refused≢complete, refused-same, wait≢refused, wait≢pause}
+use Rattle.promises.proofs.Turns.{open-turn, turn-ordinal, never-pause, pause≢complete, pause≢refused, refused≢pause, refused≢complete}
+use Rattle.promises.proofs.Turns.{refused-same, wait≢refused, wait≢pause}
 use Rattle.promises.proofs.Passing.{closed-turn}
 
 -- the count is the state's difference

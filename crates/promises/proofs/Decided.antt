@@ -1,4 +1,5 @@
--- For every budget that does not pause, the closed walk is complete exactly on the accepted files; so acceptance is decided, by running the walk with a budget that is enough.
+-- For every budget that does not pause, the closed walk is complete exactly on the accepted files; so acceptance is decided, by running the walk with
+-- a budget that is enough.
 use Prim.Native.Nat.{ℕ, suc, _+_}
 use mathlib.Core.Path.{_≡_, refl, sym, ap, _∙_}
 use mathlib.Core.Bool.{true}
@@ -7,12 +8,13 @@ use mathlib.Core.Logic.{_↔_}
 use native.Mathlib.Omega.{arith}
 use native.Mathlib.Decide.{map-dec}
 use Rattle.plan.specs.Plan.{totalOf}
-use Rattle.walk.specs.Rule.{fresh}
-use Rattle.walk.specs.Turn.{walkOf}
+use Rattle.walk.specs.State.{fresh}
+use Rattle.walk.specs.Walk.{walkOf}
 use Rattle.turns.specs.declared.Stop.{Stop}
 use Rattle.turns.specs.declared.Stop.the-variants.{Wait, Pause, Complete, Refused}
 use Rattle.walk.specs.declared.Walked.{Walked}
-use Rattle.promises.specs.Rules.{Kind, kindNumber, Accepted}
+use Rattle.promises.specs.Rules.{Kind, kindNumber}
+use Rattle.promises.specs.Newest.{Accepted}
 use Rattle.promises.proofs.Accepts.{planned, accepts}
 use Rattle.promises.proofs.Stays.{budget-stays}
 

@@ -11,6 +11,11 @@ abbrev pub Each : (ℕ → Type 0) → ℕ → ℕ → Type 0
 Each P i zero = Unit {0}
 Each P i (suc m) = P i × Each P (suc i) m
 
+-- one place, then those behind it
+pub next : {A B : Type 0} → A → B → A × B
+next a b = (a, b)
+
+-- at any of them
 pub each-at : (P : ℕ → Type 0) (i m : ℕ) → Each P i m → (k : ℕ) → i ≤ k → k < i + m → P k
 each-at P i zero h k l u = absurd (omega arith)
 each-at P i (suc m) h k l u = go (eqb i k) refl (λ n. each-at P (suc i) m (h .1) k (omega arith) (omega arith))

@@ -8,9 +8,9 @@ use native.Mathlib.Omega.{arith}
 use Rattle.words.specs.Tests.{pick}
 use Rattle.words.specs.declared.Refusal.{Refusal}
 use Rattle.words.proofs.Laws.{cases}
-use Rattle.walk.specs.Rule.{goodState}
+use Rattle.walk.specs.State.{goodState}
 use Rattle.turns.specs.Turn.{refusedAt}
-use Rattle.walk.specs.Turn.{turnOf, walkOf}
+use Rattle.walk.specs.Walk.{turnOf, walkOf}
 use Rattle.walk.specs.declared.State.{State}
 use Rattle.turns.specs.declared.Stop.{Stop}
 use Rattle.turns.specs.declared.Stop.the-variants.{Wait, Complete, Refused}

@@ -7,8 +7,8 @@ use mathlib.Core.Bool.{Bool, true, false}
 use native.Mathlib.Omega.{arith}
 use Rattle.words.proofs.Laws.{cases}
 use Rattle.plan.specs.Plan.{totalOf}
-use Rattle.walk.specs.Rule.{goodState, fresh}
-use Rattle.walk.specs.Turn.{walkOf}
+use Rattle.walk.specs.State.{goodState, fresh}
+use Rattle.walk.specs.Walk.{walkOf}
 use Rattle.walk.specs.declared.State.{State}
 use Rattle.turns.specs.declared.Stop.the-variants.{Pause}
 use Rattle.walk.specs.declared.Walked.{Walked}

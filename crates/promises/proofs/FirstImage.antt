@@ -1,25 +1,26 @@
--- An image's first record without a fault is exactly the descriptor that `Rules` describes, for the plan whose numbers it says: header, texts, eight numbers and three agreements, test by test.
+-- An image's first record without a fault is exactly the descriptor that `Rules` describes, for the plan whose numbers it says: header, texts, eight
+-- numbers and three agreements, test by test.
 use Prim.Native.Nat.{ℕ, _+_, _*_, _≤_}
 use mathlib.Core.Path.{_≡_, refl, sym, _∙_, ap}
 use mathlib.Core.List.{List}
 use mathlib.Core.Logic.{_↔_}
 use native.Mathlib.Omega.{arith}
 use lib.ListN.{length}
-use lib.Seq.{slice}
 use borrow.Author.Tests.{eqb-true, eq-eqb, leb-true, le-leb}
 use Rattle.words.specs.Words.{placeOf}
 use Rattle.decimal.specs.Text.{bytes}
 use Rattle.decimal.specs.declared.Form.the-variants.{I4, I6, I8}
 use Rattle.plan.specs.Tables.{otherCodes}
-use Rattle.plan.specs.Plan.{codesOf}
+use Rattle.plan.specs.Plan.{firstCodes}
 use Rattle.plan.specs.declared.Plan.{Plan}
-use Rattle.checks.specs.Parts.{at, number, numbers, numberAt, rowTests, numbersTests}
-use Rattle.image.specs.Image.{agreements, imageRecord, imageTests}
+use Rattle.verdicts.specs.Numbers.{at, number, numberAt, rowTests, numbersTests}
+use Rattle.image.specs.Image.{imageNumbers, agreeTests, agreements, imageTests, imageRecord}
 use Rattle.bodies.specs.Bodies.{bodyOf, bodyTests}
 use Rattle.verdicts.specs.declared.Verdict.the-variants.{Fine}
 use Rattle.verdicts.proofs.Holding.{Holds, fine-holds, holds-fine, holds-split, holds-join, each-holds, number-holds}
 use Rattle.headers.specs.Header.{headerOf}
-use Rattle.promises.specs.Rules.{ImageDescriptor}
+use Rattle.promises.specs.Newest.{ImageDescriptor}
+use Rattle.promises.proofs.Each.{next}
 use Rattle.promises.proofs.Parts.{text-is, header-is, number-is}
 
 -- the plan's numbers that the record says
@@ -31,18 +32,18 @@ pub record Named (r : List ℕ) (q : Plan) : Type 0 where
   pub s : numberAt r 289 I4 ≡ q .s
 
 module _ (q : Plan) (r : List ℕ) (size : length r ≡ 720) where
-  numbers-to : Holds (imageTests r) → headerOf 1 (codesOf 3 0) 720 r ≡ Fine → Named r q → ImageDescriptor r q
-  unfolding imageTests numbersTests agreements codesOf otherCodes placeOf
+  numbers-to : Holds (imageTests r) → headerOf 1 (firstCodes 3) 720 r ≡ Fine → Named r q → ImageDescriptor r q
+  unfolding imageTests numbersTests agreeTests firstCodes otherCodes placeOf
   numbers-to h e m =
-      let b = holds-split (numbersTests r 3 11) (agreements r) (h .1 .1) in
-      let row = each-holds (rowTests r) (number 0 I4 0 0) (slice 3 11 numbers) (b .0) in
+      let b = holds-split (numbersTests r imageNumbers) (agreements r) (h .1 .1) in
+      let row = each-holds (rowTests r) (number 0 I4 0 0) imageNumbers (b .0) in
       let lines : numberAt r 181 I6 ≡ numberAt r 237 I8 = eqb-true _ _ (b .1 .0) in
       let paired : numberAt r 281 I8 ≡ 2 * numberAt r 249 I8 = eqb-true _ _ (b .1 .1 .0) in
       let room : 192 + numberAt r 281 I8 + numberAt r 289 I4 ≤ numberAt r 187 I6 = leb-true _ _ (b .1 .1 .1 .0) in
       let channels : numberAt r 233 I4 ≡ 1 = let c = number-holds (at r 233 I4) (placeOf 233) 1 1 (row 3 (omega arith)) in omega arith in
       let group : numberAt r 225 I4 ≡ 2 = let c = number-holds (at r 225 I4) (placeOf 225) 2 2 (row 2 (omega arith)) in omega arith in
       record {
-        is = header-is 1 (codesOf 3 0) 720 r size .0 e;
+        is = header-is 1 (firstCodes 3) 720 r size .0 e;
         ab = text-is r 12 (bytes "A ") (omega arith) .0 (h .0);
         sort = text-is r 428 (bytes "IU2 ") (omega arith) .0 (h .1 .0);
         n = number-is r 181 I6 (omega arith) refl 1 999999 (q .n) .0 (row 0 (omega arith), m .n);
@@ -58,7 +59,7 @@ module _ (q : Plan) (r : List ℕ) (size : length r ≡ 720) where
       }
 
   numbers-from : ImageDescriptor r q → Holds (imageTests r) × Named r q
-  unfolding imageTests numbersTests agreements placeOf
+  unfolding imageTests numbersTests agreeTests placeOf
   numbers-from d =
       let n1 = number-is r 181 I6 (omega arith) refl 1 999999 (q .n) .1 (d .n) in
       let n2 = number-is r 187 I6 (omega arith) refl 1 999999 (q .l) .1 (d .L) in
@@ -75,8 +76,10 @@ module _ (q : Plan) (r : List ℕ) (size : length r ≡ 720) where
           text-is r 12 (bytes "A ") (omega arith) .1 (d .ab),
           (
             text-is r 428 (bytes "IU2 ") (omega arith) .1 (d .sort),
-            holds-join (numbersTests r 3 11) (agreements r)
-                (n1 .0 .0, (n1 .0 .1 .0, (n2 .0 .0, (n2 .0 .1 .0, (n3 .0 .0, (n3 .0 .1 .0, (n4 .0 .0, (n4 .0 .1 .0, (n5 .0 .0, (n5 .0 .1 .0, (n6 .0 .0, (n6 .0 .1 .0, (n7 .0 .0, (n7 .0 .1 .0, (n8 .0 .0, (n8 .0 .1 .0, tt))))))))))))))))
+            holds-join (numbersTests r imageNumbers) (agreements r)
+                (next (n1 .0 .0) (next (n1 .0 .1 .0) (next (n2 .0 .0) (next (n2 .0 .1 .0) (next (n3 .0 .0) (next (n3 .0 .1 .0)
+                (next (n4 .0 .0) (next (n4 .0 .1 .0) (next (n5 .0 .0) (next (n5 .0 .1 .0) (next (n6 .0 .0) (next (n6 .0 .1 .0)
+                (next (n7 .0 .0) (next (n7 .0 .1 .0) (next (n8 .0 .0) (next (n8 .0 .1 .0) tt))))))))))))))))
                 (eq-eqb _ _ a1, (eq-eqb _ _ a2, (le-leb _ _ a3, tt))),
           ),
         ),
@@ -84,11 +87,11 @@ module _ (q : Plan) (r : List ℕ) (size : length r ≡ 720) where
       )
 
 pub image-is : (p q : Plan) (r : List ℕ) → length r ≡ 720
-    → ((headerOf 1 (codesOf 3 0) 720 r ≡ Fine) × (bodyOf 3 0 p 0 r ≡ Fine) × Named r q) ↔ ImageDescriptor r q
-unfolding bodyOf bodyTests imageRecord codesOf otherCodes
+    → ((headerOf 1 (firstCodes 3) 720 r ≡ Fine) × (bodyOf 3 0 p 0 r ≡ Fine) × Named r q) ↔ ImageDescriptor r q
+unfolding bodyOf bodyTests imageRecord firstCodes otherCodes
 image-is p q r size = (
   λ h. numbers-to q r size (fine-holds (imageTests r) (h .1)) (h .0) (h .2),
   λ d.
       let n = numbers-from q r size d in
-      (header-is 1 (codesOf 3 0) 720 r size .1 (d .is), holds-fine (imageTests r) (n .0), n .1),
+      (header-is 1 (firstCodes 3) 720 r size .1 (d .is), holds-fine (imageTests r) (n .0), n .1),
 )

@@ -9,14 +9,14 @@ use borrow.Author.Tests.{leb-true}
 use Rattle.words.specs.Tests.{bothOf}
 use Rattle.words.proofs.Laws.{both-r}
 use Rattle.words.proofs.Table.{every-at}
-use Rattle.plan.specs.Tables.{slot, slots, slotOf}
+use Rattle.plan.specs.Tables.{slot, slots, slotOf, rows}
 use Rattle.plan.specs.Plan.{firstLength, runCounts, runLengths, sumOf, totalOf, planGood, imageGood, imageRanges, imageAgrees, slotsZero?}
 use Rattle.plan.specs.declared.Plan.{Plan}
 use Rattle.plan.specs.declared.Slot.{Slot}
 use Rattle.promises.specs.Rules.{Kind, volume, leader, image, trailer, kindNumber}
-use Rattle.promises.proofs.LaterIs.{spot, slot-long, found}
+use Rattle.promises.proofs.LaterIs.{dueAt, slot-long, found}
 
-slot-least : (j : ℕ) → j < 17 → 12 ≤ slotOf j .shortest
+slot-least : (j : ℕ) → j < rows → 12 ≤ slotOf j .shortest
 unfolding slotOf
 slot-least j h = leb-true 12 (slotOf j .shortest) (every-at (λ (s : Slot). leb 12 (s .shortest)) slots (slot 0 0 0 0 0) refl j h)
 
@@ -28,7 +28,7 @@ image-least p g =
     let c = leb-true (192 + p .d + p .s) (p .l) (both-r (eqb (p .d) (2 * p .w)) _ b) in
     omega arith
 
-run-least : (kind : Kind) (p : Plan) → planGood (kindNumber kind) p ≡ true → 1 < totalOf (kindNumber kind) p → (j : ℕ) → j < 17
+run-least : (kind : Kind) (p : Plan) → planGood (kindNumber kind) p ≡ true → 1 < totalOf (kindNumber kind) p → (j : ℕ) → j < rows
     → 1 ≤ getD (runCounts (kindNumber kind) p) j 0 → 12 ≤ getD (runLengths (kindNumber kind) p) j 0
 unfolding runCounts runLengths totalOf sumOf
 run-least volume p g t zero h s = omega arith
@@ -39,15 +39,16 @@ run-least image p g t zero h s = image-least p g
 run-least image p g t (suc j) h s = absurd (let z = getD-replicate {A = ℕ} 16 j 0 0 (omega arith) in omega arith)
 run-least trailer p g t j h s = absurd (omega arith)
 
-counts-length : (kind : Kind) (p : Plan) → length (p .counts) ≡ 17 → length (runCounts (kindNumber kind) p) ≡ 17
+counts-length : (kind : Kind) (p : Plan) → length (p .counts) ≡ rows → length (runCounts (kindNumber kind) p) ≡ rows
 unfolding runCounts
 counts-length volume p c = refl
 counts-length leader p c = c
 counts-length image p c = refl
 counts-length trailer p c = refl
 
-pub spot-least : (kind : Kind) (p : Plan) → planGood (kindNumber kind) p ≡ true → length (p .counts) ≡ 17 → length (p .lengths) ≡ 17 → (k : ℕ) → suc k < totalOf (kindNumber kind) p
-    → 12 ≤ spot kind p k .length
+pub spot-least : (kind : Kind) (p : Plan) → planGood (kindNumber kind) p ≡ true → length (p .counts) ≡ rows → length (p .lengths) ≡ rows → (k : ℕ)
+    → suc k < totalOf (kindNumber kind) p
+    → 12 ≤ dueAt kind p k .length
 spot-least kind p good cl ll k going =
     let f = found kind p good cl ll k going in
     subst (λ (n : ℕ). 12 ≤ n) (sym (f .long))

@@ -1,4 +1,5 @@
--- For any bytes a line is shown exactly where the rules say that it stands there, and then exactly its data pixels: each test of the view is a rule's line. Under a plan this holds over the sample size g.
+-- For any bytes a line is shown exactly where the rules say that it stands there, and then exactly its data pixels: each test of the view is a rule's
+-- line. Under a plan this holds over the sample size g.
 use Prim.Native.Nat.{ℕ, zero, suc, _+_, _-_, _*_, _≤_}
 use mathlib.Core.Path.{_≡_, refl, sym, ap, _∙_, subst}
 use mathlib.Core.List.{List, [], _∷_, _++_}
@@ -10,15 +11,14 @@ use lib.ListN.{length, take, drop, length-drop, take-append-drop}
 use lib.Seq.{length-take-le, take-append-le, drop-append-le, drop-drop}
 use Rattle.words.specs.Words.{twoAt, fourAt, placeOf}
 use Rattle.words.proofs.Laws.{within-true, true-within}
-use Rattle.plan.specs.Tables.{otherCodes}
-use Rattle.plan.specs.Plan.{image as image′, group, firstLength, spotOf, codesOf}
+use Rattle.plan.specs.Plan.{image as image′, group, firstLength, lineCodes, dueOf}
 use Rattle.plan.specs.declared.Plan.{Plan}
-use Rattle.plan.specs.declared.Spot.{Spot}
+use Rattle.plan.specs.declared.Due.{Due}
 use Rattle.bodies.specs.Bodies.{bodyOf}
 use Rattle.verdicts.specs.declared.Verdict.the-variants.{Fine}
-use Rattle.walk.specs.Rule.{fresh}
+use Rattle.walk.specs.State.{fresh}
 use Rattle.headers.specs.Header.{headerOf}
-use Rattle.walk.specs.Turn.{nextOf}
+use Rattle.walk.specs.Walk.{nextOf}
 use Rattle.turns.specs.declared.Stop.{Stop}
 use Rattle.turns.specs.declared.Stop.the-variants.{Wait as Wait′, Pause, Complete, Refused as Refused′}
 use Rattle.walk.specs.declared.Walked.{Walked}
@@ -26,25 +26,28 @@ use Rattle.lines.specs.View.{lineOf, behindFirst, firstOf, viewOf, shownBytes, 
 use Rattle.lines.specs.declared.View.{View}
 use Rattle.lines.specs.declared.View.the-variants.{Shown}
 use Rattle.lines.proofs.ViewLaws.{Seen, line-seen, seen-line, view-line, wait≢shown, refused≢shown}
-use Rattle.plan.proofs.CodeLaws.{line-spot}
+use Rattle.plan.proofs.CodeLaws.{line-due}
 use Rattle.lines.proofs.InsideLaws.{found-parts, parts-found, data-fits}
-use Rattle.promises.specs.Rules.{image, Record, ImageDescriptor, Line, lineDue}
+use Rattle.promises.specs.Rules.{image, Record, Line}
+use Rattle.promises.specs.Newest.{ImageDescriptor, lineDue}
 use Rattle.promises.specs.Shown.{lineStart, lineRecord, WholeLine, Stands, leftFill, dataCount, before, dataStart, dataPixels, LineNumbers, LineShown}
 use Rattle.promises.proofs.BodyIs.{body-is}
 use Rattle.promises.proofs.Counted.{open-never-complete, pause-counted}
-use Rattle.promises.proofs.FirstIs.{Same}
+use Rattle.promises.proofs.AnyEdition.{Same}
 use Rattle.promises.proofs.FirstPasses.{taken-long, first-step, first-same}
 use Rattle.promises.proofs.Parts.{header-four}
 use Rattle.promises.proofs.PlanNamed.{plan-named}
 
--- where line k stands
-abbrev spot : Plan → ℕ → Spot
-spot p k = record { run = 1; length = p .l; start = lineStart p k }
+-- line k's record as it is due
+abbrev lineAs : Plan → ℕ → Due
+lineAs p k = record { ordinal = k + 1; run = 1; codes = lineCodes 0; length = p .l; start = lineStart p k }
 
-spot-is : (p : Plan) (k : ℕ) → 1 ≤ k → k ≤ p .n → spotOf image′ p k ≡ spot p k
-spot-is p zero a b = absurd (omega arith)
-spot-is p (suc j) a b =
-    line-spot p j (omega arith) ∙ ap (λ (i : ℕ). record { run = 1; length = p .l; start = 720 + i * p .l }) (let e : j ≡ suc j - 1 = omega arith in e)
+as-due : (p : Plan) (k : ℕ) → 1 ≤ k → k ≤ p .n → dueOf image′ p k ≡ lineAs p k
+as-due p zero a b = absurd (omega arith)
+as-due p (suc j) a b =
+    line-due p j (omega arith)
+    ∙ ap (λ (i : ℕ). record { ordinal = suc j + 1; run = 1; codes = lineCodes 0; length = p .l; start = 720 + i * p .l })
+    (let e : j ≡ suc j - 1 = omega arith in e)
 
 -- ---- under a plan: a line is shown exactly where it is whole
 
@@ -67,45 +70,46 @@ module _ (p : Plan) (k : ℕ) (bs : List ℕ) where
   line-size h = length-take-le (p .l) (drop (lineStart p k) bs) (omega (arith, length-drop (lineStart p k) bs))
 
   line-header : length (lineRecord p k bs) ≡ p .l
-      → (headerOf (k + 1) (codesOf image′ 1) (p .l) (lineRecord p k bs) ≡ Fine) ↔ Record (suc k) (lineDue p .Codes) (p .l) (lineRecord p k bs)
-  unfolding codesOf otherCodes
+      → (headerOf (k + 1) (lineCodes 0) (p .l) (lineRecord p k bs) ≡ Fine) ↔ Record (suc k) (lineDue p .Codes) (p .l) (lineRecord p k bs)
   line-header size =
-      subst (λ (o : ℕ). (headerOf o (codesOf image′ 1) (p .l) (lineRecord p k bs) ≡ Fine) ↔ Record (suc k) (lineDue p .Codes) (p .l) (lineRecord p k bs))
+      subst (λ (o : ℕ). (headerOf o (lineCodes 0) (p .l) (lineRecord p k bs) ≡ Fine) ↔ Record (suc k) (lineDue p .Codes) (p .l) (lineRecord p k bs))
       (sym (add-one k)) (header-four (suc k) 50 11 18 20 (p .l) (lineRecord p k bs) size)
 
   line-body : (bodyOf image′ 1 p k (lineRecord p k bs) ≡ Fine) ↔ Line (p .w) k (lineRecord p k bs)
   line-body = body-is image p 1 k (lineRecord p k bs) tt
 
   module _ (g : ℕ) where
-    seen-whole : (start count left : ℕ) → Seen g p k (spot p k) bs start count left → WholeLine bs k p
+    seen-whole : (start count left : ℕ) → Seen g p k (lineAs p k) bs start count left → WholeLine bs k p
     seen-whole start count left q =
         let h = within-true 1 k (p .n) (q .inside) in
-        let f = found-parts p k (spot p k) (lineRecord p k bs) (q .fine) in
+        let f = found-parts p k (lineAs p k) (lineRecord p k bs) (q .fine) in
         record { least = h .0; most = h .1; is = line-header (line-size (q .whole)) .0 (f .0); holds = line-body .0 (f .1) }
 
-    whole-seen : WholeLine bs k p → Seen g p k (spot p k) bs (dataStart g p k (lineRecord p k bs)) (dataCount (lineRecord p k bs)) (leftFill (lineRecord p k bs))
+    whole-seen : WholeLine bs k p
+        → Seen g p k (lineAs p k) bs (dataStart g p k (lineRecord p k bs)) (dataCount (lineRecord p k bs)) (leftFill (lineRecord p k bs))
     whole-seen t =
         record {
           inside = true-within 1 k (p .n) (t .least) (t .most);
           whole = whole-held bs k p t;
-          fine = parts-found p k (spot p k) (lineRecord p k bs) (line-header (t .is .size) .1 (t .is)) (line-body .1 (t .holds));
+          fine = parts-found p k (lineAs p k) (lineRecord p k bs) (line-header (t .is .size) .1 (t .is)) (line-body .1 (t .holds));
           starts = refl;
           counts = refl;
           lefts = refl;
         }
 
     -- what is shown of a line that is whole
-    whole-shown : WholeLine bs k p → lineOf g p k bs ≡ Shown (dataStart g p k (lineRecord p k bs)) (dataCount (lineRecord p k bs)) (leftFill (lineRecord p k bs))
+    whole-shown : WholeLine bs k p
+        → lineOf g p k bs ≡ Shown (dataStart g p k (lineRecord p k bs)) (dataCount (lineRecord p k bs)) (leftFill (lineRecord p k bs))
     whole-shown t =
         seen-line g p k bs _ _ _
-        (subst (λ (s : Spot). Seen g p k s bs (dataStart g p k (lineRecord p k bs)) (dataCount (lineRecord p k bs)) (leftFill (lineRecord p k bs)))
-        (sym (spot-is p k (t .least) (t .most))) (whole-seen t))
+        (subst (λ (s : Due). Seen g p k s bs (dataStart g p k (lineRecord p k bs)) (dataCount (lineRecord p k bs)) (leftFill (lineRecord p k bs)))
+        (sym (as-due p k (t .least) (t .most))) (whole-seen t))
 
     shown-whole : (start count left : ℕ) → lineOf g p k bs ≡ Shown start count left → WholeLine bs k p × LineNumbers g p k bs start count left
     shown-whole start count left e =
         let q = line-seen g p k bs start count left e in
         let h = within-true 1 k (p .n) (q .inside) in
-        let t : Seen g p k (spot p k) bs start count left = subst (λ (s : Spot). Seen g p k s bs start count left) (spot-is p k (h .0) (h .1)) q in
+        let t : Seen g p k (lineAs p k) bs start count left = subst (λ (s : Due). Seen g p k s bs start count left) (as-due p k (h .0) (h .1)) q in
         (seen-whole start count left t, (t .starts, t .counts, t .lefts))
 
 -- for any plan, any bytes and any sample size: a line is shown exactly where it is whole, with the numbers that the rules give it
@@ -158,7 +162,8 @@ module _ (bs : List ℕ) (k : ℕ) (p q : Plan) (same : Same image p q) where
       record {
         least = t .least;
         most = let h = t .most in let e = same .0 in omega arith;
-        is = subst (λ (l : ℕ). Record (suc k) (lineDue p .Codes) l (lineRecord p k bs)) (sym (same .1)) (subst (Record (suc k) (lineDue p .Codes) (q .l)) r (t .is));
+        is = subst (λ (l : ℕ). Record (suc k) (lineDue p .Codes) l (lineRecord p k bs)) (sym (same .1))
+            (subst (Record (suc k) (lineDue p .Codes) (q .l)) r (t .is));
         holds = subst (λ (w : ℕ). Line w k (lineRecord p k bs)) (sym (same .2)) (subst (Line (q .w) k) r (t .holds));
       }
 
@@ -198,7 +203,8 @@ part-of S L x m bs h k =
 module _ (g : ℕ) (bs : List ℕ) (k : ℕ) (p : Plan) (paired : p .d ≡ g * p .w) (room : p .d + p .s ≤ p .l) (t : WholeLine bs k p) where
   -- the data pixels of a line that is whole lie in its record, before the suffix
   pub line-fits : before p + g * leftFill (lineRecord p k bs) + g * dataCount (lineRecord p k bs) ≤ p .l - p .s
-  line-fits = data-fits g p (leftFill (lineRecord p k bs)) (dataCount (lineRecord p k bs)) (fourAt (lineRecord p k bs) (placeOf 29)) paired room (t .holds .fills)
+  line-fits = data-fits g p (leftFill (lineRecord p k bs)) (dataCount (lineRecord p k bs)) (fourAt (lineRecord p k bs) (placeOf 29)) paired room
+      (t .holds .fills)
 
   pub whole-pixels : shownBytes g (Shown (dataStart g p k (lineRecord p k bs)) (dataCount (lineRecord p k bs)) (leftFill (lineRecord p k bs))) bs
       ≡ dataPixels g p (lineRecord p k bs)

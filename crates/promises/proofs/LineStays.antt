@@ -11,9 +11,9 @@ use lib.Seq.{take-append-le, drop-append-le}
 use borrow.Author.Tests.{ltb-true, ltb-false}
 use Rattle.words.specs.Tests.{pick, withinOf}
 use Rattle.words.proofs.Laws.{cases}
-use Rattle.plan.specs.Plan.{image as image′, group, spotOf}
+use Rattle.plan.specs.Plan.{image as image′, group, dueOf}
 use Rattle.plan.specs.declared.Plan.{Plan}
-use Rattle.walk.specs.Rule.{fresh}
+use Rattle.walk.specs.State.{fresh}
 use Rattle.turns.specs.declared.Stop.{Stop}
 use Rattle.turns.specs.declared.Stop.the-variants.{Wait as Wait′, Pause, Complete, Refused as Refused′}
 use Rattle.walk.specs.declared.State.{State}
@@ -50,18 +50,18 @@ first-stays bs ys e =
 pub line-held : (g : ℕ) (p : Plan) (k : ℕ) (bs ys : List ℕ) → ((n : ℕ) → lineOf g p k bs ≡ Wait n → ⊥) → lineOf g p k (bs ++ ys) ≡ lineOf g p k bs
 line-held g p k bs ys settled = ⊎-elim inside (λ o. line-out g p k (bs ++ ys) o ∙ sym (line-out g p k bs o)) (cases (withinOf 1 k (p .n)))
   where
-    whole : withinOf 1 k (p .n) ≡ true → spotOf image′ p k .start + spotOf image′ p k .length ≤ length bs
+    whole : withinOf 1 k (p .n) ≡ true → dueOf image′ p k .start + dueOf image′ p k .length ≤ length bs
     whole i =
-        ⊎-elim (λ h. absurd (settled _ (line-in g p k bs i ∙ at-short g p k (spotOf image′ p k) bs (ltb-true _ _ h)))) (λ h. ltb-false _ _ h)
-        (cases (ltb (length bs) (spotOf image′ p k .start + spotOf image′ p k .length)))
+        ⊎-elim (λ h. absurd (settled _ (line-in g p k bs i ∙ at-short g p k (dueOf image′ p k) bs (ltb-true _ _ h)))) (λ h. ltb-false _ _ h)
+        (cases (ltb (length bs) (dueOf image′ p k .start + dueOf image′ p k .length)))
 
     inside : withinOf 1 k (p .n) ≡ true → lineOf g p k (bs ++ ys) ≡ lineOf g p k bs
     inside i =
         let h = whole i in
-        let x = spotOf image′ p k in
+        let x = dueOf image′ p k in
         line-in g p k (bs ++ ys) i
         ∙ at-whole g p k x (bs ++ ys) (omega (arith, length-append bs ys))
-        ∙ ap (λ (r : List ℕ). onVerdict (foundIn p k x r) (k + 1) (x .start) (shownOf g p (x .start) r)) (part-stays (x .start) (x .length) bs ys h)
+        ∙ ap (λ (r : List ℕ). onVerdict (foundIn p k x r) (x .ordinal) (x .start) (shownOf g p (x .start) r)) (part-stays (x .start) (x .length) bs ys h)
         ∙ sym (line-in g p k bs i ∙ at-whole g p k x bs h)
 
 -- the view: whatever it was, if it was not a wait

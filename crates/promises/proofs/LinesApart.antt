@@ -9,7 +9,7 @@ use lib.Dec.{ltb}
 use borrow.Author.Tests.{ltb-true, ltb-false}
 use Rattle.words.proofs.Laws.{cases}
 use Rattle.plan.specs.declared.Plan.{Plan}
-use Rattle.promises.specs.Rules.{ImageDescriptor}
+use Rattle.promises.specs.Newest.{ImageDescriptor}
 use Rattle.promises.specs.Shown.{lineStart, lineRecord, Pixel, WholeLine, Stands, dataCount, dataStart}
 use Rattle.promises.proofs.LineNamed.{line-fits, stands-room}
 
@@ -40,7 +40,8 @@ pub lines-inside : (r : List ℕ) (p : Plan) → ImageDescriptor r p → (k at :
 lines-inside r p d = pixel-inside 192 p (d .room)
 
 -- the data pixels of a line that is whole are among its pixels, under any plan whose pixels, of g bytes each, fill d
-pub line-data : (g : ℕ) (bs : List ℕ) (k : ℕ) (p : Plan) → p .d ≡ g * p .w → p .d + p .s ≤ p .l → WholeLine bs k p → (i : ℕ) → i < g * dataCount (lineRecord p k bs)
+pub line-data : (g : ℕ) (bs : List ℕ) (k : ℕ) (p : Plan) → p .d ≡ g * p .w → p .d + p .s ≤ p .l → WholeLine bs k p → (i : ℕ)
+    → i < g * dataCount (lineRecord p k bs)
     → Pixel p k (dataStart g p k (lineRecord p k bs) + i)
 line-data g bs k p paired room t i h = let f = line-fits g bs k p paired room t in record { from = omega arith; to = omega arith }
 

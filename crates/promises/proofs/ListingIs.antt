@@ -1,4 +1,5 @@
--- In whatever pieces its input comes, the listing's last row is the whole closed walk's answer, unless its lines are too long to be held: by induction over its turns.
+-- In whatever pieces its input comes, the listing's last row is the whole closed walk's answer, unless its lines are too long to be held: by
+-- induction over its turns.
 use Prim.Native.Nat.{ℕ, zero, suc, _+_, _-_, _≤_, _<_}
 use mathlib.Core.Path.{_≡_, refl, sym, ap, _∙_, subst}
 use mathlib.Core.Bool.{Bool, true, false, false≢true}
@@ -10,16 +11,16 @@ use lib.ListN.{length, take, drop, length-append, drop-of-length-le}
 use borrow.Author.Tests.{eqb-false, leb-true, leb-false, ltb-true, ne-eqb}
 use Rattle.words.specs.Tests.{pick}
 use Rattle.words.proofs.Laws.{cases}
-use Rattle.plan.specs.Plan.{image as image′, firstLength, totalOf, spotOf, codesOf}
+use Rattle.plan.specs.Plan.{image as image′, firstLength, totalOf, spotOf, dueOf}
 use Rattle.plan.specs.declared.Plan.{Plan}
 use Rattle.plan.specs.declared.Spot.{Spot}
 use Rattle.bodies.specs.Bodies.{bodyOf}
 use Rattle.verdicts.specs.declared.Verdict.{Verdict}
 use Rattle.verdicts.specs.declared.Verdict.the-variants.{Fine, Fault}
-use Rattle.walk.specs.Rule.{fresh, goodState, nextSpot}
+use Rattle.walk.specs.State.{fresh, goodState, nextDue}
 use Rattle.headers.specs.Header.{headerOf}
 use Rattle.turns.specs.Turn.{refusedAt, endedOf, shortOf, onFine, judgeOf}
-use Rattle.walk.specs.Turn.{turnOf, nextOf, walkOf, more}
+use Rattle.walk.specs.Walk.{turnOf, nextOf, walkOf, more}
 use Rattle.walk.specs.declared.State.{State}
 use Rattle.turns.specs.declared.Stop.{Stop}
 use Rattle.turns.specs.declared.Stop.the-variants.{Wait, Pause, Complete as Complete′, Refused as Refused′}
@@ -45,21 +46,22 @@ use Rattle.promises.proofs.Counted.{open-never-complete}
 use Rattle.promises.proofs.FirstPasses.{one-turn}
 use Rattle.promises.proofs.PlanNamed.{plan-kept}
 use Rattle.promises.proofs.Stays.{refusal-stays, budget-stays}
-use Rattle.promises.proofs.Turns.{halt-same, pass≢halt, turn-room, turn-pass-stays, next-stays, rest-stays, never-pause, refused≢pause, wait≢pause, wait≢refused, complete≢pause, wait≢complete}
+use Rattle.promises.proofs.Turns.{halt-same, pass≢halt, turn-room, turn-pass-stays, next-stays, rest-stays, never-pause, refused≢pause}
+use Rattle.promises.proofs.Turns.{wait≢pause, wait≢refused, complete≢pause, wait≢complete}
 
 -- ---- how long the next record is
 
 -- a record that is due has twelve bytes at least
-due-least : (st : State) → goodState st ≡ true → st .kind ≡ image′ → st .passed < totalOf image′ (st .plan) → 12 ≤ spotOf image′ (st .plan) (st .passed) .length
+due-least : (st : State) → goodState st ≡ true → st .kind ≡ image′ → st .passed < totalOf image′ (st .plan) → 12 ≤ dueOf image′ (st .plan) (st .passed) .length
 unfolding spotOf firstLength
 due-least st g k h = go (st .passed) h
   where
-    go : (i : ℕ) → i < totalOf image′ (st .plan) → 12 ≤ spotOf image′ (st .plan) i .length
+    go : (i : ℕ) → i < totalOf image′ (st .plan) → 12 ≤ dueOf image′ (st .plan) i .length
     go zero h = omega arith
     go (suc i) h =
         let t = image-total (st .plan) in
         let l = lined-good st g k in
-        let e : spotOf image′ (st .plan) (suc i) .length ≡ st .plan .l = ap (λ (s : Spot). s .length) (line-spot (st .plan) i (omega arith)) in
+        let e : dueOf image′ (st .plan) (suc i) .length ≡ st .plan .l = ap (λ (s : Spot). s .length) (line-spot (st .plan) i (omega arith)) in
         let r = l .room (omega arith) in
         omega arith
 
@@ -69,7 +71,7 @@ due-least st g k h = go (st .passed) h
 pub data Waiting (st : State) (held : List ℕ) (n : ℕ) : Type 0 where
   behind : totalOf (st .kind) (st .plan) ≤ st .passed → Waiting st held n
   header-rest : st .passed < totalOf (st .kind) (st .plan) → length held + n ≡ 12 → 1 ≤ n → Waiting st held n
-  record-rest : st .passed < totalOf (st .kind) (st .plan) → length held + n ≡ nextSpot st .length → 1 ≤ n → Waiting st held n
+  record-rest : st .passed < totalOf (st .kind) (st .plan) → length held + n ≡ nextDue st .length → 1 ≤ n → Waiting st held n
 
 waited : {m n : ℕ} → Wait m ≡ Wait n → m ≡ n
 waited e = cc
@@ -78,22 +80,24 @@ waits : (st : State) (held : List ℕ) (n : ℕ) → turnOf st held false ≡ Ha
 unfolding judgeOf shortOf
 waits st held n e =
     go (leb (totalOf (st .kind) (st .plan)) (st .passed)) refl (ltb (length held) 12) refl
-    (headerOf (st .passed + 1) (codesOf (st .kind) (nextSpot st .run)) (nextSpot st .length) held) (ltb (length held) (nextSpot st .length)) refl
-    (bodyOf (st .kind) (nextSpot st .run) (st .plan) (st .passed) (take (nextSpot st .length) held)) e
+    (headerOf (st .passed + 1) (nextDue st .codes) (nextDue st .length) held) (ltb (length held) (nextDue st .length)) refl
+    (bodyOf (st .kind) (nextDue st .run) (st .plan) (st .passed) (take (nextDue st .length) held)) e
   where
     go : (x : Bool) → leb (totalOf (st .kind) (st .plan)) (st .passed) ≡ x → (y : Bool) → ltb (length held) 12 ≡ y → (h : Verdict)
-        → (z : Bool) → ltb (length held) (nextSpot st .length) ≡ z → (t : Verdict)
-        → pick x (Halt (endedOf (st .passed + 1) (nextSpot st .start) (length held) false))
-        (pick y (Halt (pick false (refusedAt (st .passed + 1) (nextSpot st .start) 2 0) (Wait (12 - length held))))
-        (onFine h (st .passed + 1) (nextSpot st .start)
-        (pick z (Halt (pick false (refusedAt (st .passed + 1) (nextSpot st .start) 2 0) (Wait (nextSpot st .length - length held))))
-        (onFine t (st .passed + 1) (nextSpot st .start) Pass)))) ≡ Halt (Wait n)
+        → (z : Bool) → ltb (length held) (nextDue st .length) ≡ z → (t : Verdict)
+        → pick x (Halt (endedOf (st .passed + 1) (nextDue st .start) (length held) false))
+        (pick y (Halt (pick false (refusedAt (st .passed + 1) (nextDue st .start) 2 0) (Wait (12 - length held))))
+        (onFine h (st .passed + 1) (nextDue st .start)
+        (pick z (Halt (pick false (refusedAt (st .passed + 1) (nextDue st .start) 2 0) (Wait (nextDue st .length - length held))))
+        (onFine t (st .passed + 1) (nextDue st .start) Pass)))) ≡ Halt (Wait n)
         → Waiting st held n
     go true ex y ey h z ez t e = behind (leb-true _ _ ex)
-    go false ex true ey h z ez t e = let l : length held < 12 = ltb-true _ _ ey in let m : 12 - length held ≡ n = waited (halt-same e) in header-rest (leb-false _ _ ex) (omega arith) (omega arith)
+    go false ex true ey h z ez t e = let l : length held < 12 = ltb-true _ _ ey in
+        let m : 12 - length held ≡ n = waited (halt-same e) in header-rest (leb-false _ _ ex) (omega arith) (omega arith)
     go false ex false ey (Fault m a) z ez t e = absurd (wait≢refused (sym (halt-same e)))
     go false ex false ey Fine true ez t e =
-        let l : length held < nextSpot st .length = ltb-true _ _ ez in let m : nextSpot st .length - length held ≡ n = waited (halt-same e) in record-rest (leb-false _ _ ex) (omega arith) (omega arith)
+        let l : length held < nextDue st .length = ltb-true _ _ ez in
+        let m : nextDue st .length - length held ≡ n = waited (halt-same e) in record-rest (leb-false _ _ ex) (omega arith) (omega arith)
     go false ex false ey Fine false ez (Fault m a) e = absurd (wait≢refused (sym (halt-same e)))
     go false ex false ey Fine false ez Fine e = absurd (pass≢halt e)
 
@@ -101,7 +105,7 @@ waits st held n e =
 
 -- the bytes held are of the next record alone, or nothing is due any more
 abbrev Room : State → List ℕ → Type 0
-Room st held = (length held ≤ nextSpot st .length) ⊎ (totalOf (st .kind) (st .plan) ≤ st .passed)
+Room st held = (length held ≤ nextDue st .length) ⊎ (totalOf (st .kind) (st .plan) ≤ st .passed)
 
 -- the walk of the whole, closed: its row, or lines that are too long
 abbrev Closes : State → List ℕ → Row → Type 0
@@ -187,9 +191,10 @@ module _ (st : State) (held : List ℕ) (good : goodState st ≡ true) where
       some : 1 ≤ n → pick (eqb n 0) 1 n ≡ n
       some h = ap (λ (b : Bool). pick b 1 n) (ne-eqb n 0 (λ z. omega arith))
 
-      least : st .passed < totalOf (st .kind) (st .plan) → 12 ≤ nextSpot st .length
+      least : st .passed < totalOf (st .kind) (st .plan) → 12 ≤ nextDue st .length
       least h =
-          subst (λ (i : ℕ). 12 ≤ spotOf i (st .plan) (st .passed) .length) (sym k) (due-least st good k (subst (λ (i : ℕ). st .passed < totalOf i (st .plan)) k h))
+          subst (λ (i : ℕ). 12 ≤ dueOf i (st .plan) (st .passed) .length) (sym k)
+          (due-least st good k (subst (λ (i : ℕ). st .passed < totalOf i (st .plan)) k h))
 
       go : Waiting st held n → Room st (held ++ p)
       go (behind h) = inr h
@@ -212,17 +217,20 @@ closes-long st bs row e q b h =
     let f = long-passed st e in
     inr (sym (last-same q), subst (λ (p : Plan). longest < p .l) (sym (plan-kept b st bs true (f .0))) (f .1))
 
-closes-ended : (st : State) (held : List ℕ) (row : Row) → goodState st ≡ true → tooLong st ≡ false → toldOf st held true .say ≡ Last row → Closes st (held ++ []) row
+closes-ended : (st : State) (held : List ℕ) (row : Row) → goodState st ≡ true → tooLong st ≡ false → toldOf st held true .say ≡ Last row
+    → Closes st (held ++ []) row
 closes-ended st held row g s e b h =
     let w = walkOf 1 st held true in
     let q = say-last st held (w .state) (w .stop) row (sym (say-short st held true s) ∙ e) in
     let k : walkOf b st held true .stop ≢ Pause = subst (λ (bs : List ℕ). walkOf b st bs true .stop ≢ Pause) (append-nil held) h in
     let (d, m) = budget-some b st held g k in
-    let v : walkOf b st held true ≡ w = ap (λ (i : ℕ). walkOf i st held true) (m ∙ (let o : suc d ≡ 1 + d = omega arith in o)) ∙ budget-stays 1 st held true (q .1) d in
+    let v : walkOf b st held true ≡ w =
+    ap (λ (i : ℕ). walkOf i st held true) (m ∙ (let o : suc d ≡ 1 + d = omega arith in o)) ∙ budget-stays 1 st held true (q .1) d in
     inl (q .0 ∙ ap closingRow (sym v) ∙ ap (λ (bs : List ℕ). closingRow (walkOf b st bs true)) (sym (append-nil held)))
 
 -- closed with more bytes, a refusal stays
-closes-refused : (st : State) (held rest : List ℕ) (row : Row) → goodState st ≡ true → tooLong st ≡ false → toldOf st held false .say ≡ Last row → Closes st (held ++ rest) row
+closes-refused : (st : State) (held rest : List ℕ) (row : Row) → goodState st ≡ true → tooLong st ≡ false → toldOf st held false .say ≡ Last row
+    → Closes st (held ++ rest) row
 closes-refused st held rest row g s e b h = go (walkOf 1 st held false .stop) refl
   where
     go : (x : Stop) → walkOf 1 st held false .stop ≡ x
@@ -234,7 +242,8 @@ closes-refused st held rest row g s e b h = go (walkOf 1 st held false .stop) re
         let (d, m) = budget-some b st (held ++ rest) g h in
         let v : walkOf b st (held ++ rest) true ≡ walkOf 1 st held false =
         ap (λ (i : ℕ). walkOf i st (held ++ rest) true) (m ∙ (let o : suc d ≡ 1 + d = omega arith in o)) ∙ refusal-stays 1 st held r z rest true d in
-        inl (say-last st held (walkOf 1 st held false .state) (walkOf 1 st held false .stop) row (sym (say-short st held false s) ∙ e) .0 ∙ ap closingRow (sym v))
+        inl (say-last st held (walkOf 1 st held false .state) (walkOf 1 st held false .stop) row (sym (say-short st held false s) ∙ e) .0
+        ∙ ap closingRow (sym v))
 
 -- a record that passes is all that is held; the walk goes on behind it
 closes-next : (st : State) (held rest : List ℕ) (row : Row) → goodState st ≡ true → turnOf st held false ≡ Pass → Room st held
@@ -242,17 +251,20 @@ closes-next : (st : State) (held rest : List ℕ) (row : Row) → goodState st �
 closes-next st held rest row g t room c b h =
     let (d, m) = budget-some b st (held ++ rest) g h in
     let r = turn-room st held false t in
-    let full : length held ≤ nextSpot st .length = ⊎-elim (λ l. l) (λ l. absurd (let o = pass-going (st .kind) (st .plan) (st .passed) (nextSpot st) held false t in omega arith)) room in
+    let full : length held ≤ nextDue st .length =
+    ⊎-elim (λ l. l) (λ l. absurd (let o = pass-going (st .kind) (st .plan) (st .passed) (nextDue st) held false t in omega arith)) room in
     let u = turn-pass-stays st held rest true t in
     let v : walkOf b st (held ++ rest) true ≡ more 1 (walkOf d (nextOf st held) ([] ++ rest) true) =
     ap (λ (i : ℕ). walkOf i st (held ++ rest) true) m
     ∙ walk-pass st (held ++ rest) true d g u
-    ∙ ap (λ (x : State). more 1 (walkOf d x (drop (nextSpot st .length) (held ++ rest)) true)) (next-stays st held rest t)
-    ∙ ap (λ (bs : List ℕ). more 1 (walkOf d (nextOf st held) bs true)) (rest-stays st held rest t ∙ ap (λ (x : List ℕ). x ++ rest) (drop-of-length-le held full)) in
+    ∙ ap (λ (x : State). more 1 (walkOf d x (drop (nextDue st .length) (held ++ rest)) true)) (next-stays st held rest t)
+    ∙ ap (λ (bs : List ℕ). more 1 (walkOf d (nextOf st held) bs true))
+    (rest-stays st held rest t ∙ ap (λ (x : List ℕ). x ++ rest) (drop-of-length-le held full)) in
     let k : walkOf d (nextOf st held) ([] ++ rest) true .stop ≢ Pause = λ z. h (ap (λ (w : Walked). w .stop) v ∙ z) in
     ⊎-elim (λ e. inl (e ∙ sym (ap closingRow v))) (λ e. inr (e .0, subst (λ (w : Walked). longest < w .state .plan .l) (sym v) (e .1))) (c d k)
 
-lists-is : {st : State} {held rest : List ℕ} {row : Row} → Lists st held rest row → goodState st ≡ true → st .kind ≡ image′ → Room st held → Closes st (held ++ rest) row
+lists-is : {st : State} {held rest : List ℕ} {row : Row} → Lists st held rest row → goodState st ≡ true → st .kind ≡ image′ → Room st held
+    → Closes st (held ++ rest) row
 lists-is {st} {held} (piece {rest = rest} {row = row} p m e l more′) g k room =
     ⊎-elim (λ s. absurd (want≢last (sym e ∙ say-long st held false s)))
     (λ s.
@@ -268,15 +280,18 @@ lists-is {st} {held} {rest} {row} (next r e after) g k room =
     let w = walkOf 1 st held false in
     let z = say-next st held (w .state) (w .stop) r (sym (say-short st held false s) ∙ e) in
     let t = turn-passes st held g z in
-    let o : toldOf st held false .state ≡ nextOf st held = ap (λ (x : Told). x .state) (told-is st held false (walkOf 1 st held false) s refl) ∙ ap (λ (x : Walked). x .state) (one-turn st held false g t) in
+    let o : toldOf st held false .state ≡ nextOf st held =
+    ap (λ (x : Told). x .state) (told-is st held false (walkOf 1 st held false) s refl) ∙ ap (λ (x : Walked). x .state) (one-turn st held false g t) in
     closes-next st held rest row g t room
     (subst (λ (x : State). Closes x ([] ++ rest) row) o
-    (lists-is after (subst (λ (x : State). goodState x ≡ true) (sym o) (good-next st held false g t)) (ap (λ (x : State). x .kind) o ∙ next-kind st held ∙ k) (inl (omega arith)))))
+    (lists-is after (subst (λ (x : State). goodState x ≡ true) (sym o) (good-next st held false g t))
+    (ap (λ (x : State). x .kind) o ∙ next-kind st held ∙ k) (inl (omega arith)))))
     (cases (tooLong st))
 lists-is {st} {held} {rest} {row} (last e) g k room =
     ⊎-elim (λ s. closes-long st (held ++ rest) row s (sym (say-long st held false s) ∙ e)) (λ s. closes-refused st held rest row g s e) (cases (tooLong st))
 
--- begun fresh, with nothing held: the last row is the whole closed walk's answer, with any budget that does not pause; or RECORD TOO LONG, where L is over 32,768
+-- begun fresh, with nothing held: the last row is the whole closed walk's answer, with any budget that does not pause; or RECORD TOO LONG, where L is
+-- over 32,768
 pub listing-is-walk : {input : List ℕ} {row : Row} → Lists (fresh image′) [] input row → (b : ℕ) → walkOf b (fresh image′) input true .stop ≢ Pause
     → (row ≡ closingRow (walkOf b (fresh image′) input true)) ⊎ ((row ≡ TooLong) × (longest < walkOf b (fresh image′) input true .state .plan .l))
 listing-is-walk l = lists-is l (good-fresh image) refl (inl (omega arith))

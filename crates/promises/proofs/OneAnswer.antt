@@ -6,16 +6,16 @@ use mathlib.Core.Bool.{Bool}
 use Rattle.words.proofs.Laws.{one-answer}
 use Rattle.decimal.specs.Scan.{written}
 use Rattle.decimal.specs.declared.Form.{Form}
+use Rattle.decimal.specs.declared.Form.the-variants.{I8}
 use Rattle.fields.specs.Field.{fieldAt}
 use Rattle.fields.specs.Listed.{listedField}
 use Rattle.plan.specs.Plan.{group, planGood}
 use Rattle.plan.specs.declared.Plan.{Plan}
-use Rattle.checks.specs.Parts.{numberAt}
-use Rattle.bodies.specs.Bodies.{bodyOf}
-use Rattle.bodies.specs.Named.{planOf}
-use Rattle.walk.specs.Rule.{fresh, startOf}
+use Rattle.verdicts.specs.Numbers.{numberAt}
+use Rattle.bodies.specs.Named.{foundOf}
+use Rattle.walk.specs.State.{fresh, startOf}
 use Rattle.headers.specs.Header.{headerOf}
-use Rattle.walk.specs.Turn.{walkOf, beginOf}
+use Rattle.walk.specs.Walk.{walkOf, beginOf}
 use Rattle.walk.specs.declared.State.{State}
 use Rattle.plan.specs.declared.Codes.{Codes}
 use Rattle.lines.specs.View.{viewOf, pixelsOf}
@@ -32,9 +32,8 @@ pub record OneAnswer : Type 0 where
   pub field-at : (bytes : List ℕ) (at : ℕ) (k : Form) → Only (fieldAt bytes at k)
   pub listed-field : (bytes : List ℕ) (number : ℕ) → Only (listedField bytes number)
   pub good : (kind : ℕ) (p : Plan) → Only (planGood kind p)
-  pub judge : (kind run : ℕ) (p : Plan) (k : ℕ) (bytes : List ℕ) → Only (bodyOf kind run p k bytes)
-  pub number-at : (bytes : List ℕ) (byte : ℕ) (k : Form) → Only (numberAt bytes byte k)
-  pub plan-of : (kind : ℕ) (bytes : List ℕ) → Only (planOf kind bytes)
+  pub judge : (kind run : ℕ) (p : Plan) (k : ℕ) (bytes : List ℕ) → Only (foundOf kind run p k bytes)
+  pub count-at : (bytes : List ℕ) (byte : ℕ) → Only (numberAt bytes byte I8)
   pub none : Only (fresh 0)
   pub begin : (kind : ℕ) → Only (beginOf kind)
   pub start : (st : State) → Only (startOf st)
@@ -54,8 +53,7 @@ one-answers =
       listed-field = λ bytes number r r′ p q. one-answer p q;
       good = λ kind p r r′ a q. one-answer a q;
       judge = λ kind run p k bytes r r′ a q. one-answer a q;
-      number-at = λ bytes byte k r r′ p q. one-answer p q;
-      plan-of = λ kind bytes r r′ p q. one-answer p q;
+      count-at = λ bytes byte r r′ p q. one-answer p q;
       none = λ r r′ p q. one-answer p q;
       begin = λ kind r r′ p q. one-answer p q;
       start = λ st r r′ p q. one-answer p q;

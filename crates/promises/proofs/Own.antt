@@ -1,4 +1,5 @@
--- States of one's own: calls begun fresh, over any pieces, say together what one call on all the bytes passed says, since a record that passed passes again on its own bytes alone.
+-- States of one's own: calls begun fresh, over any pieces, say together what one call on all the bytes passed says, since a record that passed passes
+-- again on its own bytes alone.
 use Prim.Native.Nat.{ℕ, zero, suc, _+_, _≤_, _<_}
 use mathlib.Core.Path.{_≡_, refl, sym, ap, ap₂, _∙_}
 use mathlib.Core.List.{List, _++_, append-assoc}
@@ -12,6 +13,7 @@ use lib.Seq.{length-take-le, drop-at, take-length, take-take, take-add}
 use borrow.Author.Tests.{eqb-true, eqb-false}
 use Rattle.words.specs.Tests.{pick}
 use Rattle.words.proofs.Laws.{cases, within-true}
+use Rattle.plan.specs.Tables.{rows}
 use Rattle.plan.specs.Plan.{totalOf, firstLength}
 use Rattle.plan.specs.declared.Plan.{Plan}
 use Rattle.plan.specs.declared.Spot.{Spot}
@@ -19,9 +21,9 @@ use Rattle.plan.proofs.CodeLaws.{spot-first}
 use Rattle.bodies.specs.Bodies.{bodyOf}
 use Rattle.bodies.specs.Named.{planOf}
 use Rattle.verdicts.specs.declared.Verdict.{Verdict}
-use Rattle.walk.specs.Rule.{fresh, goodState, nextSpot}
+use Rattle.walk.specs.State.{fresh, goodState, nextDue}
 use Rattle.turns.specs.Turn.{onFine}
-use Rattle.walk.specs.Turn.{turnOf, nextOf, stopped, more, badStop, walkOf}
+use Rattle.walk.specs.Walk.{turnOf, nextOf, stopped, more, badStop, walkOf}
 use Rattle.walk.specs.declared.State.{State}
 use Rattle.turns.specs.declared.Stop.{Stop}
 use Rattle.turns.specs.declared.Stop.the-variants.{Pause}
@@ -41,19 +43,19 @@ use Rattle.promises.proofs.Parts.{header-take}
 use Rattle.promises.proofs.WitnessLater.{later-twelve}
 use Rattle.promises.proofs.Completed.{named-counts, named-lengths}
 
--- a plan's lists have the 17 rows of the code's arrays
+-- a plan's lists have as many rows as the code's arrays
 abbrev pub Rows : State → Type 0
-Rows st = (length (st .plan .counts) ≡ 17) × (length (st .plan .lengths) ≡ 17)
+Rows st = (length (st .plan .counts) ≡ rows) × (length (st .plan .lengths) ≡ rows)
 
 pub rows-next : (st : State) (b : List ℕ) → Rows st → Rows (nextOf st b)
 unfolding nextOf
 rows-next st b r = go (eqb (st .passed) 0)
   where
     p : Bool → Plan
-    p t = pick t (planOf (st .kind) (take (nextSpot st .length) b)) (st .plan)
+    p t = pick t (planOf (st .kind) (take (nextDue st .length) b)) (st .plan)
 
-    go : (t : Bool) → (length (p t .counts) ≡ 17) × (length (p t .lengths) ≡ 17)
-    go true = (named-counts (st .kind) (take (nextSpot st .length) b), named-lengths (st .kind) (take (nextSpot st .length) b))
+    go : (t : Bool) → (length (p t .counts) ≡ rows) × (length (p t .lengths) ≡ rows)
+    go true = (named-counts (st .kind) (take (nextDue st .length) b), named-lengths (st .kind) (take (nextDue st .length) b))
     go false = r
 
 -- the next record of a good state has at least twelve bytes
@@ -65,7 +67,7 @@ first-wide kind = go (eqb kind 1)
     go true = omega arith
     go false = omega arith
 
-pub twelve : (st : State) → goodState st ≡ true → Rows st → st .passed < totalOf (st .kind) (st .plan) → 12 ≤ nextSpot st .length
+pub twelve : (st : State) → goodState st ≡ true → Rows st → st .passed < totalOf (st .kind) (st .plan) → 12 ≤ nextDue st .length
 twelve st g r h =
     let k = within-true 1 (st .kind) 4 (good-known st g) in
     ⊎-elim
@@ -83,9 +85,10 @@ twelve st g r h =
     one-up (suc m) n = omega arith
 
 -- a record that passed passes open on its own bytes alone
-pub pass-alone : (st : State) (b : List ℕ) (c : Bool) → goodState st ≡ true → Rows st → turnOf st b c ≡ Pass → turnOf st (take (nextSpot st .length) b) false ≡ Pass
+pub pass-alone : (st : State) (b : List ℕ) (c : Bool) → goodState st ≡ true → Rows st → turnOf st b c ≡ Pass
+    → turnOf st (take (nextDue st .length) b) false ≡ Pass
 pass-alone st b c g r t =
-    let s = nextSpot st in
+    let s = nextDue st in
     let q = pass-parts (st .kind) (st .plan) (st .passed) s b c t in
     let o = pass-going (st .kind) (st .plan) (st .passed) s b c t in
     let l = pass-long (st .kind) (st .plan) (st .passed) s b c t in
@@ -100,11 +103,11 @@ pass-alone st b c g r t =
 
 -- ---- the bytes passed are walked again alike, whatever follows them
 
-next-alone : (st : State) (b : List ℕ) → nextSpot st .length ≤ length b → nextOf st (take (nextSpot st .length) b) ≡ nextOf st b
+next-alone : (st : State) (b : List ℕ) → nextDue st .length ≤ length b → nextOf st (take (nextDue st .length) b) ≡ nextOf st b
 unfolding nextOf
 next-alone st b h =
     ap (λ (y : List ℕ). record { kind = st .kind; passed = st .passed + 1; plan = pick (eqb (st .passed) 0) (planOf (st .kind) y) (st .plan) })
-    (take-take (nextSpot st .length) (nextSpot st .length) b (omega arith))
+    (take-take (nextDue st .length) (nextDue st .length) b (omega arith))
 
 Alone : Bool → ℕ → State → List ℕ → Walked → ℕ → Type 0
 Alone c n st b w u = Rows st → (d : ℕ) (ys : List ℕ) (e : Bool) → walkOf (w .count + d) st (take u b ++ ys) e ≡ more (w .count) (walkOf d (w .state) ys e)
@@ -114,19 +117,20 @@ unfolding Alone
 alone-none c n st b x r d ys e = rw zero-add (more-none (walkOf d st ys e))
 
 alone-pass : (c : Bool) (n : ℕ) (st : State) (b : List ℕ) (w : Walked) (u : ℕ) → goodState st ≡ true → turnOf st b c ≡ Pass
-    → Alone c n (nextOf st b) (drop (nextSpot st .length) b) w u → Alone c (suc n) st b (more 1 w) (nextSpot st .length + u)
+    → Alone c n (nextOf st b) (drop (nextDue st .length) b) w u → Alone c (suc n) st b (more 1 w) (nextDue st .length + u)
 unfolding Alone
 alone-pass c n st b w u g t ih r d ys e =
-    let l = nextSpot st .length in
+    let l = nextDue st .length in
     let a = take l b in
     let rest = take u (drop l b) ++ ys in
-    let long = pass-long (st .kind) (st .plan) (st .passed) (nextSpot st) b c t in
+    let long = pass-long (st .kind) (st .plan) (st .passed) (nextDue st) b c t in
     let p = pass-alone st b c g r t in
     let q : take (l + u) b ++ ys ≡ a ++ rest = ap (λ (z : List ℕ). z ++ ys) (take-add l u b) ∙ append-assoc a (take u (drop l b)) ys in
     let k : w .count + 1 + d ≡ suc (w .count + d) = omega arith in
     ap₂ (λ (m : ℕ) (z : List ℕ). walkOf m st z e) k q
     ∙ walk-pass st (a ++ rest) e (w .count + d) g (turn-pass-stays st a rest e p)
-    ∙ ap₂ (λ (s : State) (z : List ℕ). more 1 (walkOf (w .count + d) s z e)) (next-stays st a rest p ∙ next-alone st b long) (drop-at a rest l (length-take-le l b long))
+    ∙ ap₂ (λ (s : State) (z : List ℕ). more 1 (walkOf (w .count + d) s z e)) (next-stays st a rest p ∙ next-alone st b long)
+    (drop-at a rest l (length-take-le l b long))
     ∙ ap (more 1) (ih (rows-next st b r) d ys e)
     ∙ more-more 1 (w .count) (walkOf d (w .state) ys e)
     ∙ ap (λ (m : ℕ). more m (walkOf d (w .state) ys e)) (let z : 1 + w .count ≡ w .count + 1 = omega arith in z)
@@ -135,7 +139,8 @@ alone : (c : Bool) (b : ℕ) (st : State) (bs : List ℕ) → Rows st → (d : �
     → walkOf (walkOf b st bs c .count + d) st (take (usedOf b st bs c) bs ++ ys) e ≡ more (walkOf b st bs c .count) (walkOf d (walkOf b st bs c .state) ys e)
 unfolding Alone
 alone c b st bs =
-    by-turns c (Alone c) (λ n s y g. alone-none c n s y badStop) (λ s y g. alone-none c 0 s y Pause) (λ n s y x g t. alone-none c (suc n) s y x) (alone-pass c) b st bs
+    by-turns c (Alone c) (λ n s y g. alone-none c n s y badStop) (λ s y g. alone-none c 0 s y Pause) (λ n s y x g t. alone-none c (suc n) s y x)
+    (alone-pass c) b st bs
 
 rows-kept : (c : Bool) (b : ℕ) (st : State) (bs : List ℕ) → Rows st → Rows (walkOf b st bs c .state)
 rows-kept c b st bs =

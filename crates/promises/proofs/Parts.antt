@@ -1,4 +1,5 @@
--- The tests of a record's parts say exactly the rules of `Rules`: a text, a header, a number field, a listed field and a leader's pair, each by the cases of what the bytes say.
+-- The tests of a record's parts say exactly the rules of `Rules`: a text, a header, a number field, a listed field and a leader's pair, each by the
+-- cases of what the bytes say.
 use Prim.Native.Nat.{ℕ, zero, suc, _+_, _≤_, _<_}
 use mathlib.Core.Path.{_≡_, refl, sym, ap, ap₂, _∙_, subst, subst₂}
 use mathlib.Core.List.{List, [], _∷_}
@@ -14,14 +15,14 @@ use borrow.Author.Tests.{eqb-true, eqb-false, eq-eqb, ne-eqb}
 use Rattle.words.specs.Tests.{pick, bothOf}
 use Rattle.words.specs.Words.{byteAt, twoAt, fourAt, placeOf}
 use Rattle.words.proofs.Laws.{both-l, both-r, both-make, within-true, true-within}
-use Rattle.decimal.specs.Forms.{widthOf, sortOf}
+use Rattle.decimal.specs.Forms.{widthOf, shapeOf}
 use Rattle.decimal.specs.Scan.{written}
 use Rattle.decimal.specs.Grammar.{Good, blank as blanks, whole, fixed, expo, well, badly}
 use Rattle.decimal.specs.Grammar as grammar
 use Rattle.decimal.specs.declared.Form.{Form}
 use Rattle.decimal.specs.declared.Form.the-variants.{I6}
-use Rattle.decimal.specs.declared.Sort.{Sort}
-use Rattle.decimal.specs.declared.Sort.the-variants.{Whole}
+use Rattle.decimal.specs.declared.Shape.{Shape}
+use Rattle.decimal.specs.declared.Shape.the-variants.{Whole}
 use Rattle.decimal.specs.declared.Written.{Written}
 use Rattle.decimal.specs.declared.Written.the-variants.{Number, Blank, Bad}
 use Rattle.decimal.proofs.Answer as answer
@@ -32,14 +33,15 @@ use Rattle.plan.specs.Tables.{codes}
 use Rattle.plan.specs.declared.Codes.{Codes}
 use Rattle.plan.specs.declared.Slot.{Slot}
 use Rattle.verdicts.specs.Tests.{Test, textAt, readable?, numberTests, countTests, numberOf}
-use Rattle.checks.specs.Parts.{at, numberAt}
+use Rattle.verdicts.specs.Numbers.{at, numberAt}
 use Rattle.leader.specs.Leader.{countAt, lengthAt, slotTests}
 use Rattle.leader.specs.declared.Pair as declared
 use Rattle.verdicts.specs.declared.Verdict.the-variants.{Fine}
 use Rattle.verdicts.proofs.Holding.{Holds, fine-holds, holds-fine, holds-split, holds-join}
 use Rattle.leader.proofs.PairLaws.{length-none, length-some}
 use Rattle.headers.specs.Header.{codesAre, headerTests, headerOf}
-use Rattle.promises.specs.Rules.{Says, Numbered, Readable, Coded, Is, Any, Record, Pair, blank, none, some}
+use Rattle.promises.specs.Rules.{Coded, Is, Any, Record, blank, none, some}
+use Rattle.promises.specs.Newest.{Says, Numbered, Readable, Pair}
 
 -- ---- texts
 
@@ -155,7 +157,7 @@ header-take ordinal c long n b h =
 -- ---- number fields
 
 -- a whole number has no exponent
-no-exponent : {s : Sort} {bs : List ℕ} {r : Written} → Good s bs r → s ≡ Whole → (m e : ℤ) → r ≡ Number m e → e ≡ pos 0
+no-exponent : {s : Shape} {bs : List ℕ} {r : Written} → Good s bs r → s ≡ Whole → (m e : ℤ) → r ≡ Number m e → e ≡ pos 0
 no-exponent (blanks s n) q m e z = cc
 no-exponent (whole w) q m e z = cc
 no-exponent (fixed w) q m e z = cc
@@ -173,7 +175,7 @@ module _ (r : List ℕ) (byte : ℕ) (k : Form) (here : placeOf byte + widthOf k
   by-says : (P : Field → Type 0) → ((w : Written) → Says r byte k w → P (fromWritten (placeOf byte) w)) → P (fromWritten (placeOf byte) Bad) → P (at r byte k)
   by-says P g b = subst P (sym told) (go (written k (fieldBytes r (placeOf byte) k)) (answer.says k (fieldBytes r (placeOf byte) k)))
     where
-      go : (w : Written) → grammar.Says k (fieldBytes r (placeOf byte) k) w → P (fromWritten (placeOf byte) w)
+      go : (w : Written) → grammar.Means k (fieldBytes r (placeOf byte) k) w → P (fromWritten (placeOf byte) w)
       go w (well f) = g w f
       go w (badly n) = b
 
@@ -189,7 +191,7 @@ module _ (r : List ℕ) (byte : ℕ) (k : Form) (here : placeOf byte + widthOf k
   pub readable-is : (readable? (at r byte k) ≡ true) ↔ Readable r byte k
   readable-is = (readable-to, readable-from)
 
-  module _ (plain : sortOf k ≡ Whole) (lo hi : ℕ) where
+  module _ (plain : shapeOf k ≡ Whole) (lo hi : ℕ) where
     number-well : (w : Written) → Says r byte k w → Holds (numberTests (fromWritten (placeOf byte) w) (placeOf byte) lo hi)
         → Numbered r byte k lo hi (numberOf (fromWritten (placeOf byte) w))
     number-well (Number (pos n) e) f h =
@@ -231,7 +233,8 @@ module _ (r : List ℕ) (x : declared.Pair) (s : Slot) (here : placeOf (x .byte)
   abbrev counting : Field → List Test
   counting f = countTests f (placeOf (x .byte)) (s .least) (s .most)
 
-  count-well : (w : Written) → Says r (x .byte) I6 w → Holds (counting (fromWritten (placeOf (x .byte)) w)) → Counted (numberOf (fromWritten (placeOf (x .byte)) w))
+  count-well : (w : Written) → Says r (x .byte) I6 w → Holds (counting (fromWritten (placeOf (x .byte)) w))
+      → Counted (numberOf (fromWritten (placeOf (x .byte)) w))
   count-well (Number (pos n) e) f h =
       let b = within-true (s .least) n (s .most) (h .1 .0) in
       inr (record {
@@ -247,7 +250,7 @@ module _ (r : List ℕ) (x : declared.Pair) (s : Slot) (here : placeOf (x .byte)
   unfolding countAt
   count-to = by-says r (x .byte) I6 here (λ (f : Field). Holds (counting f) → Counted (numberOf f)) count-well (λ h. absurd (false≢true (h .0)))
 
-  module _ (there : placeOf (x .byte + 6) + widthOf (x .form) ≤ length r) (plain : sortOf (x .form) ≡ Whole) where
+  module _ (there : placeOf (x .byte + 6) + widthOf (x .form) ≤ length r) (plain : shapeOf (x .form) ≡ Whole) where
     abbrev pub PairOf : ℕ → ℕ → Type 0
     PairOf = Pair r (x .byte) (x .form) (s .least) (s .most) (s .shortest) (s .longest)
 
@@ -277,7 +280,8 @@ module _ (r : List ℕ) (x : declared.Pair) (s : Slot) (here : placeOf (x .byte)
     count-reads w f = ap numberOf (field-reads r (x .byte) I6 here w f)
 
     -- a pair without a fault, by its count
-    made : (w : Written) → Says r (x .byte) I6 w → Holds (counting (fromWritten (placeOf (x .byte)) w)) → ((countAt r x ≡ 0 → ⊥) → Holds measuring) → Holds (slotTests r x s)
+    made : (w : Written) → Says r (x .byte) I6 w → Holds (counting (fromWritten (placeOf (x .byte)) w)) → ((countAt r x ≡ 0 → ⊥) → Holds measuring)
+        → Holds (slotTests r x s)
     made w f h m =
         holds-join (counting (at r (x .byte) I6)) (pick (eqb (countAt r x) 0) [] measuring)
         (subst (λ (y : Field). Holds (counting y)) (sym (field-reads r (x .byte) I6 here w f)) h) (go (eqb (countAt r x) 0) refl)
@@ -294,8 +298,12 @@ module _ (r : List ℕ) (x : declared.Pair) (s : Slot) (here : placeOf (x .byte)
         let e = count-reads Blank f in
         (made Blank f (refl, (true-within (s .least) 0 (s .most) z (omega arith), tt)) (λ n. absurd (n e)), e, length-none r x e)
     pair-from (none q) =
-        let e = count-reads (Number (pos 0) (pos 0)) (q .says) in
-        (made (Number (pos 0) (pos 0)) (q .says) (refl, (true-within (s .least) 0 (s .most) (q .least) (q .most), tt)) (λ n. absurd (n e)), e, length-none r x e)
+        let e = count-reads (Number (pos 0) (pos 0)) (q .says) in (
+          made (Number (pos 0) (pos 0)) (q .says) (refl, (true-within (s .least) 0 (s .most) (q .least) (q .most), tt))
+              (λ n. absurd (n e)),
+          e,
+          length-none r x e,
+        )
     pair-from (some {count = c} {long = l} q m) =
         let e = count-reads (Number (pos (suc c)) (pos 0)) (q .says) in
         let n : countAt r x ≡ 0 → ⊥ = λ z. omega arith in

@@ -1,4 +1,5 @@
--- `plan-named`: behind the first record the state's plan is the numbers that the rules name in it, since the record that passed is a first record of the rules; so a budget above that plan's records never pauses (`enough-planned`).
+-- `plan-named`: behind the first record the state's plan is the numbers that the rules name in it, since the record that passed is a first record of
+-- the rules; so a budget above that plan's records never pauses (`enough-planned`).
 use Prim.Native.Nat.{ℕ, zero, suc, _≤_, _<_}
 use mathlib.Core.Path.{_≡_, refl, sym, ap, _∙_, subst}
 use mathlib.Core.Bool.{Bool, true, false}
@@ -6,11 +7,11 @@ use mathlib.Core.List.{List}
 use native.Mathlib.Omega.{arith}
 use lib.ListN.{length, take, drop}
 use lib.Seq.{length-take-le}
-use Rattle.plan.specs.Plan.{firstLength, spotOf, zeroPlan, codesOf, totalOf}
+use Rattle.plan.specs.Plan.{firstLength, spotOf, zeroPlan, totalOf, firstCodes, codesOf}
 use Rattle.plan.specs.declared.Plan.{Plan}
 use Rattle.bodies.specs.Named.{planOf}
-use Rattle.walk.specs.Rule.{fresh, goodState, nextSpot}
-use Rattle.walk.specs.Turn.{turnOf, nextOf, walkOf}
+use Rattle.walk.specs.State.{fresh, goodState, nextDue}
+use Rattle.walk.specs.Walk.{turnOf, nextOf, walkOf}
 use Rattle.walk.specs.declared.State.{State}
 use Rattle.turns.specs.declared.Stop.the-variants.{Pause}
 use Rattle.turns.specs.declared.Turn.{Turn}
@@ -24,7 +25,8 @@ use borrow.Author.Tests.{ne-eqb}
 use Rattle.words.specs.Tests.{pick}
 use Rattle.words.proofs.Laws.{cases}
 use Rattle.promises.proofs.Steps.{by-turns}
-use Rattle.promises.specs.Rules.{Kind, kindNumber, First}
+use Rattle.promises.specs.Rules.{Kind, kindNumber}
+use Rattle.promises.specs.Newest.{First}
 use Rattle.promises.specs.Demands.{plannedTotal}
 use Rattle.promises.proofs.Counted.{pause-counted}
 use Rattle.promises.proofs.Enough.{enough}
@@ -35,17 +37,18 @@ use Rattle.promises.proofs.FirstIs.{first-is}
 -- the first record that passed, by the rules
 pub first-passed : (kind : Kind) (bs : List ℕ) (c : Bool) → turnOf (fresh (kindNumber kind)) bs c ≡ Pass
     → First kind (take (firstLength (kindNumber kind)) bs) (nextOf (fresh (kindNumber kind)) bs .plan)
-unfolding nextOf spotOf
+unfolding nextOf spotOf codesOf
 first-passed kind bs c t =
     let k = kindNumber kind in
     let l = firstLength k in
-    let q = pass-parts k zeroPlan 0 (nextSpot (fresh k)) bs c t in
-    let long : l ≤ length bs = pass-long k zeroPlan 0 (nextSpot (fresh k)) bs c t in
-    first-is kind zeroPlan (take l bs) (length-take-le l bs long) .0 (record { head = header-take 1 (codesOf k 0) l l bs (first-least kind) ∙ q .head; body = q .body })
+    let q = pass-parts k zeroPlan 0 (nextDue (fresh k)) bs c t in
+    let long : l ≤ length bs = pass-long k zeroPlan 0 (nextDue (fresh k)) bs c t in
+    first-is kind zeroPlan (take l bs) (length-take-le l bs long) .0
+    (record { head = header-take 1 (firstCodes k) l l bs (first-least kind) ∙ q .head; body = q .body })
 
 next-plan : (s : State) (y : List ℕ) → (s .passed ≡ 0 → ⊥) → nextOf s y .plan ≡ s .plan
 unfolding nextOf
-next-plan s y h = ap (λ (b : Bool). pick b (planOf (s .kind) (take (nextSpot s .length) y)) (s .plan)) (ne-eqb (s .passed) 0 h)
+next-plan s y h = ap (λ (b : Bool). pick b (planOf (s .kind) (take (nextDue s .length) y)) (s .plan)) (ne-eqb (s .passed) 0 h)
 
 -- behind a first record the plan stays
 pub plan-kept : (b : ℕ) (st : State) (bs : List ℕ) (c : Bool) → (st .passed ≡ 0 → ⊥) → walkOf b st bs c .state .plan ≡ st .plan
@@ -69,8 +72,11 @@ first-walked kind bs c n h = go n h (cases (goodState st)) (turnOf st bs c) refl
     go m k (inr g) t e = absurd (k (count-of _ _ (walk-bad st bs c m g) refl))
     go zero k (inl g) t e = absurd (k (count-of _ _ (walk-pause st bs c g) refl))
     go (suc m) k (inl g) (Halt x) e = absurd (k (count-of _ _ (walk-halt st bs c m x g e) refl))
-    go (suc m) k (inl g) Pass e =
-        (e, ap (λ (w : Walked). w .state .plan) (walk-pass st bs c m g e) ∙ plan-kept m (nextOf st bs) (drop (nextSpot st .length) bs) c (λ z. let o = next-passed st bs in omega arith))
+    go (suc m) k (inl g) Pass e = (
+      e,
+      ap (λ (w : Walked). w .state .plan) (walk-pass st bs c m g e)
+          ∙ plan-kept m (nextOf st bs) (drop (nextDue st .length) bs) c (λ z. let o = next-passed st bs in omega arith),
+    )
 
 -- a walk begun fresh that has passed a record: its plan is the numbers that the rules name in the file's first record
 pub plan-named : (kind : Kind) (bs : List ℕ) (c : Bool) (n : ℕ) → (walkOf n (fresh (kindNumber kind)) bs c .count ≡ 0 → ⊥)

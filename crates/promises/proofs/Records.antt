@@ -9,11 +9,14 @@ use lib.Seq.{take-at}
 use Rattle.plan.specs.Plan.{totalOf, firstLength}
 use Rattle.plan.specs.declared.Plan.{Plan}
 use Rattle.bodies.specs.Named.{planOf}
-use Rattle.walk.specs.Rule.{fresh}
-use Rattle.walk.specs.Turn.{walkOf}
+use Rattle.walk.specs.State.{fresh}
+use Rattle.walk.specs.Walk.{walkOf}
 use Rattle.turns.specs.declared.Stop.the-variants.{Complete}
-use Rattle.promises.specs.Rules.{Kind, kindNumber, promised, concat, Accepted}
-use Rattle.promises.proofs.FirstIs.{first-plan, first-size, same-promised}
+use Rattle.promises.specs.Rules.{Kind, kindNumber, concat}
+use Rattle.promises.specs.Edition.{newest}
+use Rattle.promises.specs.Newest.{promised, Accepted}
+use Rattle.promises.proofs.FirstIs.{first-plan}
+use Rattle.promises.proofs.AnyEdition.{first-size, same-promised}
 use Rattle.promises.proofs.LaterIs.{promised-length}
 use Rattle.promises.proofs.Accepts.{planned, accepted-complete, follow-length}
 use Rattle.promises.proofs.Completed.{named-counts, named-lengths}
@@ -23,8 +26,8 @@ pub records-planned : (kind : Kind) (bs : List ℕ) (a : Accepted kind bs) → s
 records-planned kind bs a =
     let k = kindNumber kind in
     let q = planOf k (a .first) in
-    let size = first-size kind (a .plan) (a .first) (a .begins) in
-    let same : promised kind q ≡ promised kind (a .plan) = same-promised kind q (a .plan) (first-plan kind (a .plan) (a .first) (a .begins)) in
+    let size = first-size newest kind (a .plan) (a .first) (a .begins) in
+    let same : promised kind q ≡ promised kind (a .plan) = same-promised newest kind q (a .plan) (first-plan kind (a .plan) (a .first) (a .begins)) in
     let n = follow-length 1 (promised kind (a .plan)) (a .rest) (a .follows) in
     let t = promised-length kind q (named-counts k (a .first)) (named-lengths k (a .first)) in
     let front : take (firstLength k) bs ≡ a .first = ap (take (firstLength k)) (sym (a .are)) ∙ take-at (a .first) (concat (a .rest)) (firstLength k) size in

@@ -9,10 +9,11 @@ use lib.Dec.{ltb}
 use lib.ListN.{length, getD, take, drop, length-append, length-drop, List·getD-append}
 use lib.Seq.{getD-drop, getD-append-add}
 use Rattle.words.specs.Words.{twoAt}
+use Rattle.words.specs.Answer.{bareRefusal}
 use Rattle.words.specs.Tests.{pick}
 use Rattle.plan.specs.Plan.{group}
 use Rattle.plan.specs.declared.Plan.{Plan}
-use Rattle.lines.specs.View.{viewOf, shownBytes, pixelsOf, bareRefusal}
+use Rattle.lines.specs.View.{viewOf, shownBytes, pixelsOf}
 use Rattle.copies.specs.Row.{samples, copiedBy, rowBy, copiedOf, rowOf}
 use Rattle.lines.specs.declared.View.{View}
 use Rattle.lines.specs.declared.View.the-variants.{Shown, Wait, Refused}
@@ -78,7 +79,9 @@ unfolding copiedOf rowOf
 row-kept bs k row h = go (viewOf group bs k) h
   where
     go : (v : View) → ((n : ℕ) → copiedBy v (length row) ≡ Done n → ⊥) → rowBy v bs row ≡ row
-    go (Shown start count left) h = pick-kept (ltb (length row) count) (samples count (shownBytes group (Shown start count left) bs) ++ drop count row) (λ e. h count (ap (λ (b : Bool). pick b (Refused′ (bareRefusal 15)) (Done count)) e))
+    go (Shown start count left) h = pick-kept (ltb (length row) count)
+        (samples count (shownBytes group (Shown start count left) bs) ++ drop count row)
+        (λ e. h count (ap (λ (b : Bool). pick b (Refused′ (bareRefusal 15)) (Done count)) e))
       where
         pick-kept : (b : Bool) (x : List ℕ) → (b ≡ false → ⊥) → pick b row x ≡ row
         pick-kept true x n = refl

@@ -1,4 +1,5 @@
--- The list of records that runs promise, one run after the other, against the search for record k: the record at place k of the list is one of the run that the search finds; by induction over the runs.
+-- The list of records that runs promise, one run after the other, against the search for record k: the record at place k of the list is one of the
+-- run that the search finds; by induction over the runs.
 use Prim.Native.Nat.{ℕ, zero, suc, _+_, _-_, _*_, _≤_, _<_}
 use mathlib.Core.Path.{_≡_, refl, sym, ap, _∙_, subst}
 use mathlib.Core.List.{List, [], _∷_, _++_}
@@ -57,7 +58,8 @@ spot-at due d (c ∷ cs) (l ∷ ls) i k at e h = go (ltb k c) refl (λ p. spot-a
         → At due d i k (c ∷ cs) (l ∷ ls) (pick (ltb k c) (record { run = i; length = l; start = at + k * l }) (spotFrom (i + 1) cs ls (k - c) (at + c * l)))
     go true q f =
         let p = ltb-true k c q in
-        subst (λ (b : Bool). At due d i k (c ∷ cs) (l ∷ ls) (pick b (record { run = i; length = l; start = at + k * l }) (spotFrom (i + 1) cs ls (k - c) (at + c * l)))) (sym q)
+        subst (λ (b : Bool). At due d i k (c ∷ cs) (l ∷ ls)
+        (pick b (record { run = i; length = l; start = at + k * l }) (spotFrom (i + 1) cs ls (k - c) (at + c * l)))) (sym q)
         (record {
           j = 0;
           run = sym (add-zero i);
@@ -69,7 +71,8 @@ spot-at due d (c ∷ cs) (l ∷ ls) i k at e h = go (ltb k c) refl (λ p. spot-a
     go false q f =
         let p = ltb-false k c q in
         let a = f p in
-        subst (λ (b : Bool). At due d i k (c ∷ cs) (l ∷ ls) (pick b (record { run = i; length = l; start = at + k * l }) (spotFrom (i + 1) cs ls (k - c) (at + c * l)))) (sym q)
+        subst (λ (b : Bool). At due d i k (c ∷ cs) (l ∷ ls)
+        (pick b (record { run = i; length = l; start = at + k * l }) (spotFrom (i + 1) cs ls (k - c) (at + c * l)))) (sym q)
         (record {
           j = suc (a .j);
           run = a .run ∙ (let z : i + 1 + a .j ≡ i + suc (a .j) = omega arith in z);

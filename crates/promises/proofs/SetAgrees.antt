@@ -1,5 +1,5 @@
--- A set agrees exactly where its directory is a file of the rules and the list is its pointers' counts: a directory has at most eight records, so its walk with a
--- budget of nine is decided, and each count stands in its own pointer's record.
+-- A set agrees exactly where its directory is a file of the rules and the list is its pointers' counts: a directory has at most eight records, so its
+-- walk with a budget of nine is decided, and each count stands in its own pointer's record.
 use Prim.Native.Nat.{ℕ, zero, suc, _+_, _*_, _≤_, _<_}
 use mathlib.Core.Path.{_≡_, refl, sym, ap, _∙_, subst}
 use mathlib.Core.List.{List, [], _∷_, _++_}
@@ -21,8 +21,8 @@ use Rattle.decimal.specs.declared.Written.the-variants.{Number}
 use Rattle.fields.specs.Field.{fieldBytes}
 use Rattle.plan.specs.Plan.{volume as volume′, firstLength, totalOf, sumOf, runCounts}
 use Rattle.plan.specs.declared.Plan.{Plan}
-use Rattle.walk.specs.Rule.{fresh, nextSpot}
-use Rattle.walk.specs.Turn.{nextOf}
+use Rattle.walk.specs.State.{fresh, nextDue}
+use Rattle.walk.specs.Walk.{nextOf}
 use Rattle.walk.specs.declared.Walked.{Walked}
 use Rattle.walk.proofs.LoopLaws.{walk-pass}
 use Rattle.walk.proofs.TurnLaws.{next-passed}
@@ -32,7 +32,8 @@ use Rattle.sets.specs.Set.{differs, countByte, countOf, compareFrom, compareOf,
 use Rattle.sets.specs.declared.Agreement.{Agreement}
 use Rattle.sets.specs.declared.Agreement.the-variants.{Agrees, Refused}
 use Rattle.sets.proofs.SetLaws.{few-pointers}
-use Rattle.promises.specs.Rules.{volume, Accepted, Numbered, First, VolumeDescriptor, promised, pointer, textRecord, concat}
+use Rattle.promises.specs.Rules.{volume, textRecord, concat}
+use Rattle.promises.specs.Newest.{Accepted, Numbered, First, VolumeDescriptor, promised, pointer}
 use Rattle.promises.specs.Shown.{Counts}
 use Rattle.promises.proofs.Accepts.{good-fresh, complete-accepted, follow-length}
 use Rattle.promises.proofs.Counted.{closed-never-waits}
@@ -103,7 +104,8 @@ module _ (bs : List ℕ) (a : Accepted volume bs) where
 
   begins : First volume (take (firstLength volume′) bs) (a .plan)
   unfolding firstLength
-  begins = subst (λ (r : List ℕ). VolumeDescriptor r (a .plan)) (sym (ap (take 360) (sym (a .are)) ∙ take-at (a .first) (concat (a .rest)) 360 size)) (a .begins)
+  begins = subst (λ (r : List ℕ). VolumeDescriptor r (a .plan)) (sym (ap (take 360) (sym (a .are)) ∙ take-at (a .first) (concat (a .rest)) 360 size))
+      (a .begins)
 
   -- a file of the rules has at most eight records
   directory-complete : directory bs .stop ≡ Complete
@@ -121,7 +123,7 @@ module _ (bs : List ℕ) (a : Accepted volume bs) where
       let st = fresh volume′ in
       let t = first-passes volume bs (a .plan) begins true in
       ap (λ (w : Walked). w .state .plan .pointers) (walk-pass st bs true 8 (good-fresh volume) t)
-      ∙ ap (λ (p : Plan). p .pointers) (plan-kept 8 (nextOf st bs) (drop (nextSpot st .length) bs) true (λ z. let o = next-passed st bs in omega arith))
+      ∙ ap (λ (p : Plan). p .pointers) (plan-kept 8 (nextOf st bs) (drop (nextDue st .length) bs) true (λ z. let o = next-passed st bs in omega arith))
       ∙ first-same volume bs (a .plan) begins
 
   -- pointer i (from 0) is a record of its own, and its count stands where the check reads it
@@ -158,9 +160,15 @@ module _ (bs : List ℕ) (a : Accepted volume bs) where
     unfolding countOf
     count-is n q =
         number-reads bs (countByte (1 + i)) I8 count-held refl 1 99999999 n
-        (record { says = subst (λ (x : List ℕ). grammar.Field I8 x (Number (pos n) (pos 0))) (sym count-bytes) (q .says); least = q .least; most = q .most })
+        (record {
+          says = subst (λ (x : List ℕ). grammar.WellWritten I8 x (Number (pos n) (pos 0))) (sym count-bytes) (q .says);
+          least = q .least;
+          most = q .most;
+        })
 
-  set-to : (cs : List ℕ) → ((length cs ≡ directory bs .state .plan .pointers) × ((i : ℕ) → i < length cs → getD cs i 0 ≡ countOf bs (1 + i))) ↔ Counts (a .plan .pointers) (a .rest) cs
+  set-to : (cs : List ℕ)
+      → ((length cs ≡ directory bs .state .plan .pointers) × ((i : ℕ) → i < length cs → getD cs i 0 ≡ countOf bs (1 + i)))
+      ↔ Counts (a .plan .pointers) (a .rest) cs
   set-to cs = (
     λ h.
         record {
@@ -170,7 +178,11 @@ module _ (bs : List ℕ) (a : Accepted volume bs) where
               subst (Numbered (getD (a .rest) i []) 101 I8 1 99999999)
               (sym (h .1 i (let m = h .0 in let p = directory-pointers in omega arith) ∙ count-is i l (c .0) (c .1))) (c .1);
         },
-    λ c. (c .many ∙ sym directory-pointers, λ i l. let j : i < a .plan .pointers = (let m = c .many in omega arith) in sym (count-is i j (getD cs i 0) (c .each i j))),
+    λ c. (
+      c .many ∙ sym directory-pointers,
+      λ i l.
+          let j : i < a .plan .pointers = (let m = c .many in omega arith) in sym (count-is i j (getD cs i 0) (c .each i j)),
+    ),
   )
 
 -- agrees exactly where the directory is accepted and the list is its pointers' counts

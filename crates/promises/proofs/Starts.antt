@@ -1,4 +1,5 @@
--- The bytes that a call passed are the difference of the next record's place in the file, which `start` answers: records lie end to end, by induction over the runs of the plan.
+-- The bytes that a call passed are the difference of the next record's place in the file, which `start` answers: records lie end to end, by induction
+-- over the runs of the plan.
 use Prim.Native.Nat.{ℕ, zero, suc, _+_, _-_, _*_, _≤_, _<_}
 use mathlib.Core.Path.{_≡_, refl, sym, ap, _∙_}
 use mathlib.Core.Logic.{⊎-elim}
@@ -12,12 +13,12 @@ use lib.ListN.{take}
 use borrow.Author.Tests.{ltb-true, ltb-false, lt-ltb, le-ltb, ne-eqb}
 use Rattle.words.specs.Tests.{pick}
 use Rattle.words.proofs.Laws.{cases}
-use Rattle.plan.specs.Plan.{spotFrom, spotOf, runCounts, runLengths, firstLength}
+use Rattle.plan.specs.Plan.{spotFrom, spotOf, runCounts, runLengths, firstLength, dueOf}
 use Rattle.plan.specs.declared.Plan.{Plan}
 use Rattle.plan.specs.declared.Spot.{Spot}
 use Rattle.bodies.specs.Named.{planOf}
-use Rattle.walk.specs.Rule.{goodState, nextSpot, startOf}
-use Rattle.walk.specs.Turn.{nextOf, walkOf}
+use Rattle.walk.specs.State.{goodState, nextDue, startOf}
+use Rattle.walk.specs.Walk.{nextOf, walkOf}
 use Rattle.walk.specs.declared.State.{State}
 use Rattle.walk.specs.declared.Walked.{Walked}
 use Rattle.promises.specs.Pieces.{usedOf}
@@ -64,13 +65,15 @@ from-next i (c ∷ cs) (l ∷ ls) k at =
     (λ z. ⊎-elim (λ y. inside (ltb-true k c z) (ltb-true (suc k) c y)) (λ y. edge (ltb-true k c z) (ltb-false (suc k) c y)) (cases (ltb (suc k) c)))
     (λ z. beyond (from-next (i + 1) cs ls (k - c) (at + c * l)) (ltb-false k c z)) (cases (ltb k c))
   where
-    inside : k < c → suc k < c → spotFrom i (c ∷ cs) (l ∷ ls) (suc k) at .start ≡ spotFrom i (c ∷ cs) (l ∷ ls) k at .start + spotFrom i (c ∷ cs) (l ∷ ls) k at .length
+    inside : k < c → suc k < c
+        → spotFrom i (c ∷ cs) (l ∷ ls) (suc k) at .start ≡ spotFrom i (c ∷ cs) (l ∷ ls) k at .start + spotFrom i (c ∷ cs) (l ∷ ls) k at .length
     inside h j =
         ap (λ (s : Spot). s .start) (in-run i c l cs ls (suc k) at j)
         ∙ (let e : at + suc k * l ≡ at + k * l + l = omega (arith, suc-mul k l) in e)
         ∙ ap (λ (s : Spot). s .start + s .length) (sym (in-run i c l cs ls k at h))
 
-    edge : k < c → c ≤ suc k → spotFrom i (c ∷ cs) (l ∷ ls) (suc k) at .start ≡ spotFrom i (c ∷ cs) (l ∷ ls) k at .start + spotFrom i (c ∷ cs) (l ∷ ls) k at .length
+    edge : k < c → c ≤ suc k
+        → spotFrom i (c ∷ cs) (l ∷ ls) (suc k) at .start ≡ spotFrom i (c ∷ cs) (l ∷ ls) k at .start + spotFrom i (c ∷ cs) (l ∷ ls) k at .length
     edge h j =
         let ck : c ≡ suc k = omega arith in
         let k0 : suc k - c ≡ 0 = omega arith in
@@ -81,7 +84,8 @@ from-next i (c ∷ cs) (l ∷ ls) k at =
         ∙ (let e : at + c * l ≡ at + k * l + l = omega arith in e)
         ∙ ap (λ (s : Spot). s .start + s .length) (sym (in-run i c l cs ls k at h))
 
-    beyond : spotFrom (i + 1) cs ls (suc (k - c)) (at + c * l) .start ≡ spotFrom (i + 1) cs ls (k - c) (at + c * l) .start + spotFrom (i + 1) cs ls (k - c) (at + c * l) .length → c ≤ k
+    beyond : spotFrom (i + 1) cs ls (suc (k - c)) (at + c * l) .start
+        ≡ spotFrom (i + 1) cs ls (k - c) (at + c * l) .start + spotFrom (i + 1) cs ls (k - c) (at + c * l) .length → c ≤ k
         → spotFrom i (c ∷ cs) (l ∷ ls) (suc k) at .start ≡ spotFrom i (c ∷ cs) (l ∷ ls) k at .start + spotFrom i (c ∷ cs) (l ∷ ls) k at .length
     beyond ih h =
         let d : suc k - c ≡ suc (k - c) = omega arith in
@@ -92,32 +96,32 @@ from-next i (c ∷ cs) (l ∷ ls) k at =
 
 -- records lie end to end; the plan that the first record names has no say in where the second begins
 module _ (kind : ℕ) (p q : Plan) where
-  pub second-start : spotOf kind q 1 .start ≡ spotOf kind p 0 .start + spotOf kind p 0 .length
+  pub second-start : dueOf kind q 1 .start ≡ dueOf kind p 0 .start + dueOf kind p 0 .length
   unfolding spotOf
   second-start = from-first 1 (runCounts kind q) (runLengths kind q) (firstLength kind) ∙ (let e : firstLength kind ≡ 0 + firstLength kind = omega arith in e)
 
-pub end-to-end : (kind : ℕ) (p : Plan) (k : ℕ) → spotOf kind p (suc k) .start ≡ spotOf kind p k .start + spotOf kind p k .length
+pub end-to-end : (kind : ℕ) (p : Plan) (k : ℕ) → dueOf kind p (suc k) .start ≡ dueOf kind p k .start + dueOf kind p k .length
 unfolding spotOf
 end-to-end kind p zero = second-start kind p p
 end-to-end kind p (suc k) = from-next 1 (runCounts kind p) (runLengths kind p) k (firstLength kind)
 
-next-start : (st : State) (b : List ℕ) → nextSpot (nextOf st b) .start ≡ nextSpot st .start + nextSpot st .length
+next-start : (st : State) (b : List ℕ) → nextDue (nextOf st b) .start ≡ nextDue st .start + nextDue st .length
 unfolding nextOf
 next-start st b = go (st .passed)
   where
     go : (k : ℕ)
-        → spotOf (st .kind) (pick (eqb k 0) (planOf (st .kind) (take (spotOf (st .kind) (st .plan) k .length) b)) (st .plan)) (k + 1) .start
-        ≡ spotOf (st .kind) (st .plan) k .start + spotOf (st .kind) (st .plan) k .length
-    go zero = second-start (st .kind) (st .plan) (planOf (st .kind) (take (spotOf (st .kind) (st .plan) 0 .length) b))
+        → dueOf (st .kind) (pick (eqb k 0) (planOf (st .kind) (take (dueOf (st .kind) (st .plan) k .length) b)) (st .plan)) (k + 1) .start
+        ≡ dueOf (st .kind) (st .plan) k .start + dueOf (st .kind) (st .plan) k .length
+    go zero = second-start (st .kind) (st .plan) (planOf (st .kind) (take (dueOf (st .kind) (st .plan) 0 .length) b))
     go (suc k) = rw (ne-eqb (suc k) 0 (λ z. omega arith), add-one (suc k)) (end-to-end (st .kind) (st .plan) (suc k))
 
-spot-advances : (b : ℕ) (st : State) (bs : List ℕ) (c : Bool) → nextSpot (walkOf b st bs c .state) .start ≡ nextSpot st .start + usedOf b st bs c
+spot-advances : (b : ℕ) (st : State) (bs : List ℕ) (c : Bool) → nextDue (walkOf b st bs c .state) .start ≡ nextDue st .start + usedOf b st bs c
 spot-advances b st bs c =
-    by-turns c (λ n s y w u. nextSpot (w .state) .start ≡ nextSpot s .start + u) (λ n s y g. omega arith) (λ s y g. omega arith) (λ n s y x g t. omega arith)
+    by-turns c (λ n s y w u. nextDue (w .state) .start ≡ nextDue s .start + u) (λ n s y g. omega arith) (λ s y g. omega arith) (λ n s y x g t. omega arith)
     (λ n s y w u g t e. omega (arith, next-start s y)) b st bs
 
 module _ (st : State) where
-  start-good : goodState st ≡ true → startOf st ≡ nextSpot st .start
+  start-good : goodState st ≡ true → startOf st ≡ nextDue st .start
   unfolding startOf
   start-good g = simp g
 

@@ -1,4 +1,5 @@
--- A refusal by an open call is final: the same whole answer for any further bytes, any larger budget and when the file is closed; each turn of the call looks only at bytes that were there.
+-- A refusal by an open call is final: the same whole answer for any further bytes, any larger budget and when the file is closed; each turn of the
+-- call looks only at bytes that were there.
 use Prim.Native.Nat.{ℕ, suc, _+_}
 use mathlib.Core.Path.{_≡_, refl, sym, ap, _∙_}
 use mathlib.Core.Logic.{_≢_}
@@ -7,8 +8,8 @@ use mathlib.Core.Bool.{Bool, true, false}
 use native.Mathlib.Nat.{suc-add}
 use lib.ListN.{drop}
 use Rattle.words.specs.declared.Refusal.{Refusal}
-use Rattle.walk.specs.Rule.{goodState, nextSpot}
-use Rattle.walk.specs.Turn.{turnOf, nextOf, stopped, more, walkOf}
+use Rattle.walk.specs.State.{goodState, nextDue}
+use Rattle.walk.specs.Walk.{turnOf, nextOf, stopped, more, walkOf}
 use Rattle.walk.specs.declared.State.{State}
 use Rattle.turns.specs.declared.Stop.{Stop}
 use Rattle.turns.specs.declared.Stop.the-variants.{Pause, Refused}
@@ -29,8 +30,8 @@ module _ (n : ℕ) (st : State) (b : List ℕ) (g : goodState st ≡ true) where
       rw suc-add
       (walk-halt st (b ++ ys) c (n + d) z g (turn-refusal-stays st b ys c x (t ∙ ap Halt e) ∙ ap Halt (sym e)))
 
-  stays-pass : (w : Walked) (u : ℕ) → turnOf st b false ≡ Pass → Stays n (nextOf st b) (drop (nextSpot st .length) b) w u
-      → Stays (suc n) st b (more 1 w) (nextSpot st .length + u)
+  stays-pass : (w : Walked) (u : ℕ) → turnOf st b false ≡ Pass → Stays n (nextOf st b) (drop (nextDue st .length) b) w u
+      → Stays (suc n) st b (more 1 w) (nextDue st .length + u)
   unfolding Stays
   stays-pass w u t ih x e ys c d =
       rw suc-add

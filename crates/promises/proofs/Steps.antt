@@ -6,8 +6,8 @@ use mathlib.Core.Bool.{Bool, true, false}
 use mathlib.Core.Logic.{⊎-elim}
 use lib.ListN.{drop}
 use Rattle.words.proofs.Laws.{cases}
-use Rattle.walk.specs.Rule.{goodState, nextSpot}
-use Rattle.walk.specs.Turn.{turnOf, nextOf, stopped, more, badStop, walkOf}
+use Rattle.walk.specs.State.{goodState, nextDue}
+use Rattle.walk.specs.Walk.{turnOf, nextOf, stopped, more, badStop, walkOf}
 use Rattle.walk.specs.declared.State.{State}
 use Rattle.turns.specs.declared.Stop.{Stop}
 use Rattle.turns.specs.declared.Stop.the-variants.{Pause}
@@ -32,7 +32,7 @@ module _ (st : State) (b : List ℕ) (c : Bool) where
   used-halt n x h t = simp (h, t)
 
   pub used-pass : (n : ℕ) → goodState st ≡ true → turnOf st b c ≡ Pass
-      → usedOf (suc n) st b c ≡ nextSpot st .length + usedOf n (nextOf st b) (drop (nextSpot st .length) b) c
+      → usedOf (suc n) st b c ≡ nextDue st .length + usedOf n (nextOf st b) (drop (nextDue st .length) b) c
   unfolding usedOf
   used-pass n h t = simp (h, t)
 
@@ -42,7 +42,7 @@ module _ (c : Bool) (P : ℕ → State → List ℕ → Walked → ℕ → Type 
     (pause : (st : State) (b : List ℕ) → goodState st ≡ true → P 0 st b (stopped st Pause) 0)
     (halt : (n : ℕ) (st : State) (b : List ℕ) (x : Stop) → goodState st ≡ true → turnOf st b c ≡ Halt x → P (suc n) st b (stopped st x) 0)
     (pass : (n : ℕ) (st : State) (b : List ℕ) (w : Walked) (u : ℕ) → goodState st ≡ true → turnOf st b c ≡ Pass
-    → P n (nextOf st b) (drop (nextSpot st .length) b) w u → P (suc n) st b (more 1 w) (nextSpot st .length + u))
+    → P n (nextOf st b) (drop (nextDue st .length) b) w u → P (suc n) st b (more 1 w) (nextDue st .length + u))
   where
     pub by-turns : (n : ℕ) (st : State) (b : List ℕ) → P n st b (walkOf n st b c) (usedOf n st b c)
     by-turns zero st b =
@@ -52,11 +52,12 @@ module _ (c : Bool) (P : ℕ → State → List ℕ → Walked → ℕ → Type 
         (cases (goodState st))
     by-turns (suc n) st b =
         ⊎-elim
-        (λ g. go (by-turns n (nextOf st b) (drop (nextSpot st .length) b)) g (turnOf st b c) refl)
+        (λ g. go (by-turns n (nextOf st b) (drop (nextDue st .length) b)) g (turnOf st b c) refl)
         (λ g. subst₂ (λ (w : Walked) (u : ℕ). P (suc n) st b w u) (sym (walk-bad st b c (suc n) g)) (sym (used-bad st b c (suc n) g)) (bad (suc n) st b g))
         (cases (goodState st))
       where
-        go : P n (nextOf st b) (drop (nextSpot st .length) b) (walkOf n (nextOf st b) (drop (nextSpot st .length) b) c) (usedOf n (nextOf st b) (drop (nextSpot st .length) b) c)
+        go : P n (nextOf st b) (drop (nextDue st .length) b) (walkOf n (nextOf st b) (drop (nextDue st .length) b) c)
+            (usedOf n (nextOf st b) (drop (nextDue st .length) b) c)
             → goodState st ≡ true → (t : Turn) → turnOf st b c ≡ t → P (suc n) st b (walkOf (suc n) st b c) (usedOf (suc n) st b c)
         go ih g Pass t =
             subst₂ (λ (w : Walked) (u : ℕ). P (suc n) st b w u) (sym (walk-pass st b c n g t)) (sym (used-pass st b c n g t)) (pass n st b _ _ g t ih)

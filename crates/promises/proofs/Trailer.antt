@@ -1,4 +1,5 @@
--- `trailer-accepts`: a trailer's closed walk ends "complete" exactly where its bytes are a trailer, with any budget of two or more: `accepts`, where one record is planned.
+-- `trailer-accepts`: a trailer's closed walk ends "complete" exactly where its bytes are a trailer, with any budget of two or more: `accepts`, where
+-- one record is planned.
 use Prim.Native.Nat.{ℕ, suc}
 use mathlib.Core.Path.{_≡_}
 use mathlib.Core.List.{List}
@@ -6,10 +7,11 @@ use mathlib.Core.Bool.{true}
 use mathlib.Core.Logic.{_↔_}
 use native.Mathlib.Omega.{arith}
 use Rattle.plan.specs.Plan.{totalOf, runCounts, sumOf}
-use Rattle.walk.specs.Rule.{fresh}
-use Rattle.walk.specs.Turn.{walkOf}
+use Rattle.walk.specs.State.{fresh}
+use Rattle.walk.specs.Walk.{walkOf}
 use Rattle.turns.specs.declared.Stop.the-variants.{Complete}
-use Rattle.promises.specs.Rules.{Accepted, trailer}
+use Rattle.promises.specs.Rules.{trailer}
+use Rattle.promises.specs.Newest.{Accepted}
 use Rattle.promises.proofs.Accepts.{accepts}
 
 pub trailer-accepts : (bs : List ℕ) (n : ℕ) → (walkOf (suc (suc n)) (fresh 4) bs true .stop ≡ Complete) ↔ Accepted trailer bs

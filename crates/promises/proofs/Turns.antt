@@ -1,4 +1,5 @@
--- One turn that halts: what can be its stop, from the three stops of too many or too few bytes and the refusals of header and body; and that what an open turn settles stays, by the bytes that the tests look at.
+-- One turn that halts: what can be its stop, from the three stops of too many or too few bytes and the refusals of header and body; and that what an
+-- open turn settles stays, by the bytes that the tests look at.
 use Prim.Native.Nat.{ℕ, _+_, _-_, _≤_, _<_}
 use mathlib.Core.Path.{_≡_, refl, sym, ap, _∙_, subst}
 use mathlib.Core.Logic.{⊎-elim}
@@ -13,24 +14,24 @@ use Rattle.words.specs.Tests.{pick}
 use Rattle.words.specs.Words.{byteAt, twoAt, fourAt}
 use Rattle.words.specs.declared.Refusal.{Refusal}
 use Rattle.words.proofs.Laws.{cases}
-use Rattle.plan.specs.Plan.{totalOf, codesOf}
+use Rattle.plan.specs.Plan.{totalOf}
 use Rattle.plan.specs.declared.Codes.{Codes}
 use Rattle.plan.specs.declared.Plan.{Plan}
-use Rattle.plan.specs.declared.Spot.{Spot}
+use Rattle.plan.specs.declared.Due.{Due}
 use Rattle.bodies.specs.Bodies.{bodyOf}
 use Rattle.bodies.specs.Named.{planOf}
 use Rattle.verdicts.specs.declared.Verdict.{Verdict}
 use Rattle.verdicts.specs.declared.Verdict.the-variants.{Fine, Fault}
-use Rattle.walk.specs.Rule.{nextSpot}
+use Rattle.walk.specs.State.{nextDue}
 use Rattle.headers.specs.Header.{codesAre, headerTests, headerOf}
 use Rattle.turns.specs.Turn.{refusedAt, onFine, judgeOf, endedOf, shortOf}
-use Rattle.walk.specs.Turn.{turnOf, nextOf}
+use Rattle.walk.specs.Walk.{turnOf, nextOf}
 use Rattle.walk.specs.declared.State.{State}
 use Rattle.turns.specs.declared.Stop.{Stop}
 use Rattle.turns.specs.declared.Stop.the-variants.{Wait, Pause, Complete, Refused}
 use Rattle.turns.specs.declared.Turn.{Turn}
 use Rattle.turns.specs.declared.Turn.the-variants.{Pass, Halt}
-use Rattle.turns.proofs.TurnLaws.{pass-long, judge-ended, judge-twelve, judge-fault, judge-part, judge-body, not-fine}
+use Rattle.turns.proofs.TurnLaws.{pass-long, judge-ended, judge-twelve, judge-fault, judge-part, judge-body}
 
 -- ---- the stops of a turn
 
@@ -66,25 +67,26 @@ short-is Q o a false n p q = p
 
 module _ (Q : Stop → Type 0) (st : State) (b : List ℕ) (c : Bool) (x : Stop) where
   -- a halting turn's stop has the property Q where each of the stops that it can be has it
-  pub halt-of : Q (pick c Complete (Wait 0)) → ((n : ℕ) → Q (Wait n)) → Q (refusedAt (st .passed + 1) (nextSpot st .start) 9 0)
-      → Q (refusedAt (st .passed + 1) (nextSpot st .start) 2 0)
-      → ((n p : ℕ) → headerOf (st .passed + 1) (codesOf (st .kind) (nextSpot st .run)) (nextSpot st .length) b ≡ Fault n p
-      → Q (refusedAt (st .passed + 1) (nextSpot st .start) n p))
-      → ((n p : ℕ) → bodyOf (st .kind) (nextSpot st .run) (st .plan) (st .passed) (take (nextSpot st .length) b) ≡ Fault n p
-      → Q (refusedAt (st .passed + 1) (nextSpot st .start) n p))
+  pub halt-of : Q (pick c Complete (Wait 0)) → ((n : ℕ) → Q (Wait n)) → Q (refusedAt (st .passed + 1) (nextDue st .start) 9 0)
+      → Q (refusedAt (st .passed + 1) (nextDue st .start) 2 0)
+      → ((n p : ℕ) → headerOf (st .passed + 1) (nextDue st .codes) (nextDue st .length) b ≡ Fault n p
+      → Q (refusedAt (st .passed + 1) (nextDue st .start) n p))
+      → ((n p : ℕ) → bodyOf (st .kind) (nextDue st .run) (st .plan) (st .passed) (take (nextDue st .length) b) ≡ Fault n p
+      → Q (refusedAt (st .passed + 1) (nextDue st .start) n p))
       → turnOf st b c ≡ Halt x → Q x
   unfolding judgeOf
   halt-of qc qw q9 q2 qh qb e =
       let o : ℕ = st .passed + 1 in
-      let a : ℕ = nextSpot st .start in
-      halts Q (st .passed + 1) (nextSpot st .start) (endedOf o a (length b) c) (shortOf o a c (12 - length b)) (shortOf o a c (nextSpot st .length - length b))
+      let a : ℕ = nextDue st .start in
+      halts Q (st .passed + 1) (nextDue st .start) (endedOf o a (length b) c) (shortOf o a c (12 - length b)) (shortOf o a c (nextDue st .length - length b))
       (ended-is Q o a (length b) c qc q9) (short-is Q o a c (12 - length b) (qw (12 - length b)) q2)
-      (short-is Q o a c (nextSpot st .length - length b) (qw (nextSpot st .length - length b)) q2) x
-      (leb (totalOf (st .kind) (st .plan)) (st .passed)) (ltb (length b) 12) (ltb (length b) (nextSpot st .length))
-      (headerOf o (codesOf (st .kind) (nextSpot st .run)) (nextSpot st .length) b)
-      (bodyOf (st .kind) (nextSpot st .run) (st .plan) (st .passed) (take (nextSpot st .length) b)) qh qb e
+      (short-is Q o a c (nextDue st .length - length b) (qw (nextDue st .length - length b)) q2) x
+      (leb (totalOf (st .kind) (st .plan)) (st .passed)) (ltb (length b) 12) (ltb (length b) (nextDue st .length))
+      (headerOf o (nextDue st .codes) (nextDue st .length) b)
+      (bodyOf (st .kind) (nextDue st .run) (st .plan) (st .passed) (take (nextDue st .length) b)) qh qb e
 
-  pub halt-is : Q (pick c Complete (Wait 0)) → ((n : ℕ) → Q (Wait n)) → ((n p : ℕ) → Q (refusedAt (st .passed + 1) (nextSpot st .start) n p)) → turnOf st b c ≡ Halt x → Q x
+  pub halt-is : Q (pick c Complete (Wait 0)) → ((n : ℕ) → Q (Wait n)) → ((n p : ℕ) → Q (refusedAt (st .passed + 1) (nextDue st .start) n p))
+      → turnOf st b c ≡ Halt x → Q x
   halt-is qc qw qr e = halt-of qc qw (qr 9 0) (qr 2 0) (λ n p h. qr n p) (λ n p h. qr n p) e
 
 pub wait≢pause : {n : ℕ} → Wait n ≡ Pause → ⊥
@@ -181,7 +183,7 @@ short-open : (o a n : ℕ) → shortOf o a false n ≡ Wait n
 unfolding shortOf
 short-open o a n = refl
 
-module _ (kind : ℕ) (p : Plan) (k : ℕ) (s : Spot) (b ys : List ℕ) (c : Bool) (e : settled (judgeOf kind p k s b false) ≡ true) where
+module _ (kind : ℕ) (p : Plan) (k : ℕ) (s : Due) (b ys : List ℕ) (c : Bool) (e : settled (judgeOf kind p k s b false) ≡ true) where
   longer : length b ≤ length (b ++ ys)
   longer = omega (arith, length-append b ys)
 
@@ -190,36 +192,36 @@ module _ (kind : ℕ) (p : Plan) (k : ℕ) (s : Spot) (b ys : List ℕ) (c : Boo
 
   over : totalOf kind p ≤ k → judgeOf kind p k s (b ++ ys) c ≡ judgeOf kind p k s b false
   over h =
-      let some : length b ≡ 0 → ⊥ = λ z. unsettled 0 (judge-ended kind p k s b false h ∙ ap Halt (ended-none (k + 1) (s .start) (length b) z)) in
+      let some : length b ≡ 0 → ⊥ = λ z. unsettled 0 (judge-ended kind p k s b false h ∙ ap Halt (ended-none (s .ordinal) (s .start) (length b) z)) in
       let more : length (b ++ ys) ≡ 0 → ⊥ = λ z. some (omega (arith, longer)) in
       judge-ended kind p k s (b ++ ys) c h
-      ∙ ap Halt (ended-left (k + 1) (s .start) (length (b ++ ys)) c more ∙ sym (ended-left (k + 1) (s .start) (length b) false some))
+      ∙ ap Halt (ended-left (s .ordinal) (s .start) (length (b ++ ys)) c more ∙ sym (ended-left (s .ordinal) (s .start) (length b) false some))
       ∙ sym (judge-ended kind p k s b false h)
 
   module _ (going : k < totalOf kind p) (twelve : 12 ≤ length b) where
     twelve-more : 12 ≤ length (b ++ ys)
     twelve-more = omega (arith, longer)
 
-    heads : headerOf (k + 1) (codesOf kind (s .run)) (s .length) (b ++ ys) ≡ headerOf (k + 1) (codesOf kind (s .run)) (s .length) b
-    heads = header-front b ys twelve (k + 1) (codesOf kind (s .run)) (s .length)
+    heads : headerOf (s .ordinal) (s .codes) (s .length) (b ++ ys) ≡ headerOf (s .ordinal) (s .codes) (s .length) b
+    heads = header-front b ys twelve (s .ordinal) (s .codes) (s .length)
 
-    by-header : (v : Verdict) → headerOf (k + 1) (codesOf kind (s .run)) (s .length) b ≡ v → judgeOf kind p k s (b ++ ys) c ≡ judgeOf kind p k s b false
+    by-header : (v : Verdict) → headerOf (s .ordinal) (s .codes) (s .length) b ≡ v → judgeOf kind p k s (b ++ ys) c ≡ judgeOf kind p k s b false
     by-header (Fault n a) q =
-        judge-fault kind p k s (b ++ ys) c going twelve-more (Fault n a) (heads ∙ q) (not-fine refl)
-        ∙ sym (judge-fault kind p k s b false going twelve (Fault n a) q (not-fine refl))
+        judge-fault kind p k s (b ++ ys) c going twelve-more n a (heads ∙ q)
+        ∙ sym (judge-fault kind p k s b false going twelve n a q)
     by-header Fine q = ⊎-elim part whole (cases (ltb (length b) (s .length)))
       where
         part : ltb (length b) (s .length) ≡ true → judgeOf kind p k s (b ++ ys) c ≡ judgeOf kind p k s b false
         part z =
             absurd
             (unsettled (s .length - length b)
-            (judge-part kind p k s b false going twelve q (ltb-true _ _ z) ∙ ap Halt (short-open (k + 1) (s .start) (s .length - length b))))
+            (judge-part kind p k s b false going twelve q (ltb-true _ _ z) ∙ ap Halt (short-open (s .ordinal) (s .start) (s .length - length b))))
 
         whole : ltb (length b) (s .length) ≡ false → judgeOf kind p k s (b ++ ys) c ≡ judgeOf kind p k s b false
         whole z =
             let l : s .length ≤ length b = ltb-false (length b) (s .length) z in
             judge-body kind p k s (b ++ ys) c going twelve-more (heads ∙ q) (omega (arith, longer))
-            ∙ ap (λ (r : List ℕ). onFine (bodyOf kind (s .run) p k r) (k + 1) (s .start) Pass) (take-append-le (s .length) b ys l)
+            ∙ ap (λ (r : List ℕ). onFine (bodyOf kind (s .run) p k r) (s .ordinal) (s .start) Pass) (take-append-le (s .length) b ys l)
             ∙ sym (judge-body kind p k s b false going twelve q l)
 
   judge-stays : judgeOf kind p k s (b ++ ys) c ≡ judgeOf kind p k s b false
@@ -230,18 +232,18 @@ module _ (kind : ℕ) (p : Plan) (k : ℕ) (s : Spot) (b ys : List ℕ) (c : Boo
       ⊎-elim
       (λ y.
       absurd
-      (unsettled (12 - length b) (judge-twelve kind p k s b false going (ltb-true _ _ y) ∙ ap Halt (short-open (k + 1) (s .start) (12 - length b)))))
+      (unsettled (12 - length b) (judge-twelve kind p k s b false going (ltb-true _ _ y) ∙ ap Halt (short-open (s .ordinal) (s .start) (12 - length b)))))
       (λ y. by-header going (ltb-false (length b) 12 y) _ refl) (cases (ltb (length b) 12)))
       (cases (leb (totalOf kind p) k))
 
 -- a record that passes lies within the bytes
-pub turn-room : (st : State) (b : List ℕ) (c : Bool) → turnOf st b c ≡ Pass → nextSpot st .length ≤ length b
-turn-room st b c e = pass-long (st .kind) (st .plan) (st .passed) (nextSpot st) b c e
+pub turn-room : (st : State) (b : List ℕ) (c : Bool) → turnOf st b c ≡ Pass → nextDue st .length ≤ length b
+turn-room st b c e = pass-long (st .kind) (st .plan) (st .passed) (nextDue st) b c e
 
 module _ (st : State) (b ys : List ℕ) where
   -- one turn: a pass and a refusal by an open turn are the same for any further bytes, open or closed
   pub turn-stays : (c : Bool) → settled (turnOf st b false) ≡ true → turnOf st (b ++ ys) c ≡ turnOf st b false
-  turn-stays c e = judge-stays (st .kind) (st .plan) (st .passed) (nextSpot st) b ys c e
+  turn-stays c e = judge-stays (st .kind) (st .plan) (st .passed) (nextDue st) b ys c e
 
   pub turn-refusal-stays : (c : Bool) (x : Refusal) → turnOf st b false ≡ Halt (Refused x) → turnOf st (b ++ ys) c ≡ Halt (Refused x)
   turn-refusal-stays c x e = turn-stays c (ap settled e) ∙ e
@@ -254,7 +256,7 @@ module _ (st : State) (b ys : List ℕ) where
   unfolding nextOf
   next-stays e =
       ap (λ (r : List ℕ). record { kind = st .kind; passed = st .passed + 1; plan = pick (eqb (st .passed) 0) (planOf (st .kind) r) (st .plan) })
-      (take-append-le (nextSpot st .length) b ys (turn-room st b false e))
+      (take-append-le (nextDue st .length) b ys (turn-room st b false e))
 
-  pub rest-stays : turnOf st b false ≡ Pass → drop (nextSpot st .length) (b ++ ys) ≡ drop (nextSpot st .length) b ++ ys
-  rest-stays e = drop-append-le (nextSpot st .length) b ys (turn-room st b false e)
+  pub rest-stays : turnOf st b false ≡ Pass → drop (nextDue st .length) (b ++ ys) ≡ drop (nextDue st .length) b ++ ys
+  rest-stays e = drop-append-le (nextDue st .length) b ys (turn-room st b false e)

@@ -12,8 +12,10 @@ use borrow.Author.Tests.{eqb-true, eqb-false, ne-eqb, leb-true, leb-false, ltb-t
 use Rattle.words.specs.Tests.{pick}
 use Rattle.words.specs.declared.Refusal.{Refusal}
 use Rattle.words.proofs.Laws.{cases, within-true}
-use Rattle.plan.specs.Plan.{totalOf, firstLength, codesOf, spotOf, planGood}
+use Rattle.plan.specs.Tables.{rows}
+use Rattle.plan.specs.Plan.{totalOf, firstLength, planGood, dueOf}
 use Rattle.plan.specs.declared.Plan.{Plan}
+use Rattle.plan.specs.declared.Due.{Due}
 use Rattle.plan.specs.declared.Spot.{Spot}
 use Rattle.plan.proofs.CodeLaws.{spot-first}
 use Rattle.bodies.specs.Bodies.{bodyOf}
@@ -23,10 +25,10 @@ use Rattle.headers.specs.Header.{headerOf}
 use Rattle.turns.specs.Turn.{refusedAt, onFine, endedOf, shortOf}
 use Rattle.turns.specs.declared.Stop.the-variants.{Wait, Complete, Refused}
 use Rattle.turns.specs.declared.Turn.the-variants.{Pass, Halt}
-use Rattle.turns.proofs.TurnLaws.{judge-ended, judge-twelve, judge-fault, judge-part, judge-body, not-fine}
+use Rattle.turns.proofs.TurnLaws.{judge-ended, judge-twelve, judge-fault, judge-part, judge-body}
 use Rattle.turns.proofs.FaultLaws.{FaultCan, needOf, header-can, body-can}
-use Rattle.walk.specs.Rule.{goodState, nextSpot}
-use Rattle.walk.specs.Turn.{turnOf, walkOf}
+use Rattle.walk.specs.State.{goodState, nextDue}
+use Rattle.walk.specs.Walk.{turnOf, walkOf}
 use Rattle.walk.specs.declared.State.{State}
 use Rattle.walk.proofs.GoodLaws.{good-known, good-later}
 use Rattle.walk.proofs.TurnLaws.{good-next}
@@ -70,14 +72,14 @@ known (suc (suc (suc (suc (suc k))))) a b = absurd (omega arith)
 
 -- a record behind the first
 Later : Plan → ℕ → ℕ → Type 0
-Later p k kind = planGood kind p ≡ true → k < totalOf kind p → needOf kind (spotOf kind p k .run) ≤ spotOf kind p k .length
+Later p k kind = planGood kind p ≡ true → k < totalOf kind p → needOf kind (dueOf kind p k .run) ≤ dueOf kind p k .length
 
-later : (p : Plan) → length (p .counts) ≡ 17 → length (p .lengths) ≡ 17 → (kind : Kind) (k : ℕ) → (k ≡ 0 → ⊥) → Later p k (kindNumber kind)
+later : (p : Plan) → length (p .counts) ≡ rows → length (p .lengths) ≡ rows → (kind : Kind) (k : ℕ) → (k ≡ 0 → ⊥) → Later p k (kindNumber kind)
 unfolding Later
 later p c l kind zero n g h = absurd (n refl)
 later p c l kind (suc k) n g h = need-later kind _ _ (long-is kind p g c l k h)
 
-need-is : (st : State) → goodState st ≡ true → Rows st → st .passed < totalOf (st .kind) (st .plan) → needOf (st .kind) (nextSpot st .run) ≤ nextSpot st .length
+need-is : (st : State) → goodState st ≡ true → Rows st → st .passed < totalOf (st .kind) (st .plan) → needOf (st .kind) (nextDue st .run) ≤ nextDue st .length
 unfolding Later
 need-is st g r h =
     let k = within-true 1 (st .kind) 4 (good-known st g) in
@@ -112,42 +114,49 @@ ended-two o a n c x = go (eqb n 0) c
     go false c e t = let n = ap (λ (r : Refusal). r .number) (refused-same (halt-same e)) in omega arith
 
 -- a fault that is 2
-fault-two : (need : ℕ) (r : List ℕ) (v : Verdict) (o a : ℕ) (x : Refusal) → FaultCan need r v → onFine v o a Pass ≡ Halt (Refused x) → x .number ≡ 2 → length r < need
+fault-two : (need : ℕ) (r : List ℕ) (v : Verdict) (o a : ℕ) (x : Refusal) → FaultCan need r v → onFine v o a Pass ≡ Halt (Refused x) → x .number ≡ 2
+    → length r < need
 fault-two need r Fine o a x f e t = absurd (pass≢halt e)
 fault-two need r (Fault n at) o a x f e t = f .short (ap (λ (r : Refusal). r .number) (refused-same (halt-same e)) ∙ t)
 
 pub turn-two : (st : State) (b : List ℕ) (c : Bool) (x : Refusal) → goodState st ≡ true → Rows st → turnOf st b c ≡ Halt (Refused x) → x .number ≡ 2
-    → Cut c (length b) (nextSpot st .length)
+    → Cut c (length b) (nextDue st .length)
 turn-two st b c x g r e t =
-    ⊎-elim (λ h. absurd (ended-two _ _ _ c x (sym (judge-ended _ _ _ s b c (leb-true _ _ h)) ∙ e) t)) (λ h. going (leb-false _ _ h)) (cases (leb (totalOf (st .kind) (st .plan)) (st .passed)))
+    ⊎-elim (λ h. absurd (ended-two _ _ _ c x (sym (judge-ended _ _ _ s b c (leb-true _ _ h)) ∙ e) t)) (λ h. going (leb-false _ _ h))
+    (cases (leb (totalOf (st .kind) (st .plan)) (st .passed)))
   where
-    s : Spot
-    s = nextSpot st
+    s : Due
+    s = nextDue st
 
-    whole : st .passed < totalOf (st .kind) (st .plan) → 12 ≤ length b → headerOf (st .passed + 1) (codesOf (st .kind) (s .run)) (s .length) b ≡ Fine → s .length ≤ length b → ⊥
+    whole : st .passed < totalOf (st .kind) (st .plan) → 12 ≤ length b → headerOf (st .passed + 1) (s .codes) (s .length) b ≡ Fine
+        → s .length ≤ length b → ⊥
     whole o w f l =
         let long = length-take-le (s .length) b l in
-        let q = fault-two (needOf (st .kind) (s .run)) (take (s .length) b) (bodyOf (st .kind) (s .run) (st .plan) (st .passed) (take (s .length) b)) (st .passed + 1) (s .start) x
+        let q = fault-two (needOf (st .kind) (s .run)) (take (s .length) b) (bodyOf (st .kind) (s .run) (st .plan) (st .passed) (take (s .length) b))
+        (st .passed + 1) (s .start) x
         (body-can (st .kind) (s .run) (st .plan) (st .passed) (take (s .length) b)) (sym (judge-body (st .kind) (st .plan) (st .passed) s b c o w f l) ∙ e) t in
         omega (arith, need-is st g r o)
 
-    headed : st .passed < totalOf (st .kind) (st .plan) → 12 ≤ length b → headerOf (st .passed + 1) (codesOf (st .kind) (s .run)) (s .length) b ≡ Fine → Cut c (length b) (s .length)
+    headed : st .passed < totalOf (st .kind) (st .plan) → 12 ≤ length b → headerOf (st .passed + 1) (s .codes) (s .length) b ≡ Fine
+        → Cut c (length b) (s .length)
     headed o w f =
         ⊎-elim
         (λ h. let l = ltb-true _ _ h in (short-two _ _ _ c x (sym (judge-part (st .kind) (st .plan) (st .passed) s b c o w f l) ∙ e), l))
         (λ h. absurd (whole o w f (ltb-false _ _ h)))
         (cases (ltb (length b) (s .length)))
 
-    judged : st .passed < totalOf (st .kind) (st .plan) → 12 ≤ length b → (v : Verdict) → headerOf (st .passed + 1) (codesOf (st .kind) (s .run)) (s .length) b ≡ v → Cut c (length b) (s .length)
+    judged : st .passed < totalOf (st .kind) (st .plan) → 12 ≤ length b → (v : Verdict)
+        → headerOf (st .passed + 1) (s .codes) (s .length) b ≡ v → Cut c (length b) (s .length)
     judged o w Fine f = headed o w f
     judged o w (Fault n at) f =
-        let j = judge-fault (st .kind) (st .plan) (st .passed) s b c o w (Fault n at) f (not-fine refl) in
+        let j = judge-fault (st .kind) (st .plan) (st .passed) s b c o w n at f in
         absurd (omega (arith, fault-two 0 b (Fault n at) _ _ x (subst (FaultCan 0 b) f (header-can _ _ _ b)) (sym j ∙ e) t))
 
     going : st .passed < totalOf (st .kind) (st .plan) → Cut c (length b) (s .length)
     going o =
         ⊎-elim
-        (λ h. let l = ltb-true _ _ h in (short-two _ _ _ c x (sym (judge-twelve (st .kind) (st .plan) (st .passed) s b c o l) ∙ e), omega (arith, twelve st g r o)))
+        (λ h. let l = ltb-true _ _ h in
+        (short-two _ _ _ c x (sym (judge-twelve (st .kind) (st .plan) (st .passed) s b c o l) ∙ e), omega (arith, twelve st g r o)))
         (λ h. judged o (ltb-false _ _ h) _ refl)
         (cases (ltb (length b) 12))
 
@@ -155,10 +164,10 @@ turn-two st b c x g r e t =
 
 -- the file is closed, and the bytes not passed do not hold the record behind the state handed back
 pub two : (b : ℕ) (st : State) (bs : List ℕ) (c : Bool) → goodState st ≡ true → Rows st → (x : Refusal) → walkOf b st bs c .stop ≡ Refused x → x .number ≡ 2
-    → (c ≡ true) × (length (drop (usedOf b st bs c) bs) < nextSpot (walkOf b st bs c .state) .length)
+    → (c ≡ true) × (length (drop (usedOf b st bs c) bs) < nextDue (walkOf b st bs c .state) .length)
 two b st bs c =
     by-turns c
-    (λ n s y w u. goodState s ≡ true → Rows s → (x : Refusal) → w .stop ≡ Refused x → x .number ≡ 2 → Cut c (length (drop u y)) (nextSpot (w .state) .length))
+    (λ n s y w u. goodState s ≡ true → Rows s → (x : Refusal) → w .stop ≡ Refused x → x .number ≡ 2 → Cut c (length (drop u y)) (nextDue (w .state) .length))
     (λ n s y g h r x e t. absurd (false≢true (sym g ∙ h))) (λ s y g h r x e t. absurd (pause≢refused e))
     (λ n s y z g o h r x e t. turn-two s y c x h r (o ∙ ap Halt e) t)
-    (λ n s y w u g o i h r x e t. rw (← drop-drop u (nextSpot s .length) y) (i (good-next s y c h o) (rows-next s y r) x e t)) b st bs
+    (λ n s y w u g o i h r x e t. rw (← drop-drop u (nextDue s .length) y) (i (good-next s y c h o) (rows-next s y r) x e t)) b st bs

@@ -5,16 +5,18 @@ use mathlib.Core.List.{List}
 use native.Mathlib.Omega.{arith}
 use lib.ListN.{length}
 use Rattle.words.specs.Words.{placeOf}
-use Rattle.decimal.specs.Scan.{mantissaOf, numberOf, decimalOf, written}
+use Rattle.digits.specs.Segments.{mantissaOf}
+use Rattle.decimal.specs.Scan.{numberIn, decimalOf, written}
 use Rattle.fields.specs.Field.{fieldAt}
 use Rattle.plan.specs.Tables.{slotOf, otherCodes}
-use Rattle.plan.specs.Plan.{codesOf, firstLength}
+use Rattle.plan.specs.Plan.{firstLength, firstCodes}
 use Rattle.plan.specs.declared.Plan.{Plan}
 use Rattle.verdicts.specs.Tests.{firstFault, textAt}
-use Rattle.checks.specs.Parts.{numbersTests}
+use Rattle.verdicts.specs.Numbers.{numbersTests}
+use Rattle.volume.specs.Volume.{volumeTests, volumeRecord}
 use Rattle.leader.specs.Leader.{countAt, pairTests, leaderTests, leaderRecord}
-use Rattle.image.specs.Image.{agreements, imageTests, imageRecord}
-use Rattle.bodies.specs.Bodies.{volumeTests, trailerTests, volumeRecord, bodyTests, bodyOf}
+use Rattle.image.specs.Image.{imageTests, imageRecord, agreeTests}
+use Rattle.bodies.specs.Bodies.{trailerTests, bodyTests, bodyOf}
 use Rattle.verdicts.specs.declared.Verdict.the-variants.{Fine}
 use Rattle.headers.specs.Header.{headerOf}
 use Rattle.promises.specs.Bytes.{Bytes}
@@ -45,15 +47,18 @@ trailer-each = (omega arith, (blank 706, tt))
 
 module _ (p : Plan) where
   volume-body : bodyOf 1 0 p 0 (firstOf 1 volumeParts) ≡ Fine
-  unfolding firstOf volumeParts blanks bodyOf bodyTests volumeRecord volumeTests numbersTests firstFault textAt fieldAt placeOf mantissaOf numberOf decimalOf written made four
+  unfolding firstOf volumeParts blanks bodyOf bodyTests volumeRecord volumeTests numbersTests firstFault textAt fieldAt placeOf mantissaOf numberIn
+      decimalOf written made four
   volume-body = refl
 
   leader-body : bodyOf 2 0 p 0 (firstOf 2 leaderParts) ≡ Fine
-  unfolding firstOf leaderParts blanks bodyOf bodyTests leaderRecord leaderTests pairTests countAt slotOf firstFault textAt fieldAt placeOf mantissaOf numberOf decimalOf written made four
+  unfolding firstOf leaderParts blanks bodyOf bodyTests leaderRecord leaderTests pairTests countAt slotOf firstFault textAt fieldAt placeOf mantissaOf
+      numberIn decimalOf written made four
   leader-body = refl
 
   image-body : bodyOf 3 0 p 0 (firstOf 3 imageParts) ≡ Fine
-  unfolding firstOf imageParts blanks bodyOf bodyTests imageRecord imageTests agreements numbersTests firstFault textAt fieldAt placeOf mantissaOf numberOf decimalOf written made four
+  unfolding firstOf imageParts blanks bodyOf bodyTests imageRecord imageTests agreeTests numbersTests firstFault textAt fieldAt placeOf mantissaOf
+      numberIn decimalOf written made four
   image-body = refl
 
   trailer-body : bodyOf 4 0 p 0 (firstOf 4 trailerParts) ≡ Fine
@@ -65,29 +70,34 @@ module _ (p : Plan) where
 abbrev Passing : ℕ → Type 0
 Passing kind =
     (r : List ℕ) × Bytes r × (length r ≡ firstLength kind)
-    × ((p : Plan) → headerOf 1 (codesOf kind 0) (firstLength kind) r ≡ Fine)
+    × ((p : Plan) → headerOf 1 (firstCodes kind) (firstLength kind) r ≡ Fine)
     × ((p : Plan) → bodyOf kind 0 p 0 r ≡ Fine)
 
 module _ (kind : ℕ) (ps : List (List ℕ)) where
-  put : firstLength kind < 4294967296 → Small (codesOf kind 0) → Each ps → 12 + length (concat ps) ≡ firstLength kind → ((p : Plan) → bodyOf kind 0 p 0 (firstOf kind ps) ≡ Fine) → Passing kind
+  put : firstLength kind < 4294967296 → Small (firstCodes kind) → Each ps → 12 + length (concat ps) ≡ firstLength kind
+      → ((p : Plan) → bodyOf kind 0 p 0 (firstOf kind ps) ≡ Fine) → Passing kind
   unfolding firstOf
   put h c b e f = (
     firstOf kind ps,
-    made-bytes 1 (codesOf kind 0) (firstLength kind) (concat ps) (omega arith) c h (bytes-concat ps b),
-    made-length 1 (codesOf kind 0) (firstLength kind) (concat ps) ∙ e,
-    λ p. made-header 1 (codesOf kind 0) (firstLength kind) (concat ps),
+    made-bytes 1 (firstCodes kind) (firstLength kind) (concat ps) (omega arith) c h (bytes-concat ps b),
+    made-length 1 (firstCodes kind) (firstLength kind) (concat ps) ∙ e,
+    λ p. made-header 1 (firstCodes kind) (firstLength kind) (concat ps),
     f,
   )
 
 -- some bytes pass as the first record, whatever plan stood in the state
 pub first-some : (kind : ℕ) → 1 ≤ kind → kind ≤ 4
     → (r : List ℕ) × Bytes r × (length r ≡ firstLength kind)
-    × ((p : Plan) → headerOf 1 (codesOf kind 0) (firstLength kind) r ≡ Fine)
+    × ((p : Plan) → headerOf 1 (firstCodes kind) (firstLength kind) r ≡ Fine)
     × ((p : Plan) → bodyOf kind 0 p 0 r ≡ Fine)
-unfolding firstLength codesOf otherCodes volumeParts leaderParts imageParts trailerParts blanks
+unfolding firstLength firstCodes otherCodes volumeParts leaderParts imageParts trailerParts blanks
 first-some zero a b = absurd (omega arith)
-first-some (suc zero) a b = put 1 volumeParts (omega arith) (record { one = omega arith; two = omega arith; three = omega arith; four = omega arith }) volume-each refl volume-body
-first-some (suc (suc zero)) a b = put 2 leaderParts (omega arith) (record { one = omega arith; two = omega arith; three = omega arith; four = omega arith }) leader-each refl leader-body
-first-some (suc (suc (suc zero))) a b = put 3 imageParts (omega arith) (record { one = omega arith; two = omega arith; three = omega arith; four = omega arith }) image-each refl image-body
-first-some (suc (suc (suc (suc zero)))) a b = put 4 trailerParts (omega arith) (record { one = omega arith; two = omega arith; three = omega arith; four = omega arith }) trailer-each refl trailer-body
+first-some (suc zero) a b =
+    put 1 volumeParts (omega arith) (record { one = omega arith; two = omega arith; three = omega arith; four = omega arith }) volume-each refl volume-body
+first-some (suc (suc zero)) a b =
+    put 2 leaderParts (omega arith) (record { one = omega arith; two = omega arith; three = omega arith; four = omega arith }) leader-each refl leader-body
+first-some (suc (suc (suc zero))) a b =
+    put 3 imageParts (omega arith) (record { one = omega arith; two = omega arith; three = omega arith; four = omega arith }) image-each refl image-body
+first-some (suc (suc (suc (suc zero)))) a b =
+    put 4 trailerParts (omega arith) (record { one = omega arith; two = omega arith; three = omega arith; four = omega arith }) trailer-each refl trailer-body
 first-some (suc (suc (suc (suc (suc kind))))) a b = absurd (omega arith)

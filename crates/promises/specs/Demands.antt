@@ -11,8 +11,8 @@ use Rattle.words.specs.Tests.{pick, bothOf}
 use Rattle.words.specs.declared.Refusal.{Refusal}
 use Rattle.plan.specs.Plan.{totalOf, firstLength}
 use Rattle.bodies.specs.Named.{planOf}
-use Rattle.walk.specs.Rule.{fresh, goodState, nextSpot}
-use Rattle.walk.specs.Turn.{walkOf, turnOf, nextOf, stopped, more, badStop, onTurn}
+use Rattle.walk.specs.State.{fresh, goodState, nextDue}
+use Rattle.walk.specs.Walk.{walkOf, turnOf, nextOf, stopped, more, badStop, onTurn}
 use Rattle.walk.specs.declared.State.{State}
 use Rattle.turns.specs.declared.Stop.the-variants.{Wait, Pause, Complete, Refused}
 use Rattle.turns.specs.declared.Turn.{Turn}
@@ -23,7 +23,8 @@ use Rattle.copies.specs.Row.{copiedOf, rowOf}
 use Rattle.copies.specs.declared.Copied.{Copied}
 use Rattle.copies.specs.declared.Copied.the-variants.{Done}
 use Rattle.promises.specs.Shown.{Stands, lineRecord, dataCount, dataPixels, sample}
-use Rattle.promises.specs.Rules.{Kind, kindNumber, Accepted}
+use Rattle.promises.specs.Rules.{Kind, kindNumber}
+use Rattle.promises.specs.Newest.{Accepted}
 use Rattle.promises.specs.Arriving.{Starts, Waits, Refuses, AtRecordEnd}
 
 -- a walk: budget, state, bytes, closed
@@ -38,8 +39,8 @@ plannedTotal kind bs = totalOf (kindNumber kind) (planOf (kindNumber kind) (take
 abbrev pub Demand2 : Walk → Type 0
 Demand2 W = (kind : Kind) (bs : List ℕ) (n : ℕ) → plannedTotal kind bs < n → (W n (fresh (kindNumber kind)) bs true .stop ≡ Complete) ↔ Accepted kind bs
 
--- demand 3: begun fresh, open, at a record's end, with a budget above the planned records or any that does not pause, it waits exactly when some accepted file begins
--- with the bytes and refuses exactly when none does
+-- demand 3: begun fresh, open, at a record's end, with a budget above the planned records or any that does not pause, it waits exactly when some
+-- accepted file begins with the bytes and refuses exactly when none does
 abbrev pub Demand3 : Walk → Type 0
 Demand3 W = (kind : Kind) (bs : List ℕ) (n : ℕ) → (plannedTotal kind bs < n) ⊎ (W n (fresh (kindNumber kind)) bs false .stop ≡ Pause → ⊥) → AtRecordEnd kind bs
     → (Waits (W n (fresh (kindNumber kind)) bs false .stop) ↔ Starts kind bs) × (Refuses (W n (fresh (kindNumber kind)) bs false .stop) ↔ (Starts kind bs → ⊥))
@@ -99,13 +100,14 @@ fixed w n st bs c = w
 -- line 1 is checked and the rest waved through: an image's record behind line 1 passes as soon as it is whole
 abbrev pub wavedTurn : State → List ℕ → Bool → Turn
 wavedTurn st bs c =
-    pick (bothOf (bothOf (eqb (st .kind) 3) (leb 2 (st .passed))) (bothOf (leb (nextSpot st .length) (length bs)) (leb (suc (st .passed)) (totalOf (st .kind) (st .plan))))) Pass
+    pick (bothOf (bothOf (eqb (st .kind) 3) (leb 2 (st .passed)))
+    (bothOf (leb (nextDue st .length) (length bs)) (leb (suc (st .passed)) (totalOf (st .kind) (st .plan))))) Pass
     (turnOf st bs c)
 
 unfoldable pub waver : Walk
 waver zero st bs c = pick (goodState st) (stopped st Pause) (stopped st badStop)
 waver (suc n) st bs c =
-    pick (goodState st) (onTurn (wavedTurn st bs c) st (more 1 (waver n (nextOf st bs) (drop (nextSpot st .length) bs) c))) (stopped st badStop)
+    pick (goodState st) (onTurn (wavedTurn st bs c) st (more 1 (waver n (nextOf st bs) (drop (nextDue st .length) bs) c))) (stopped st badStop)
 
 -- a made-up passed count: one more than there was
 abbrev pub boaster : Walk

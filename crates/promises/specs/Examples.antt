@@ -9,21 +9,24 @@ use lib.ListN.{replicate}
 use Rattle.words.specs.Answer.{Answer, Word, value, bare, refusedAs, waiting}
 use Rattle.words.specs.Words.{twoAt, fourAt, placeOf}
 use Rattle.decimal.specs.Text.{bytes}
-use Rattle.decimal.specs.Scan.{written, decimalOf, numberOf, mantissaOf, exponentOf}
+use Rattle.digits.specs.Segments.{mantissaOf, exponentOf}
+use Rattle.decimal.specs.Scan.{written, decimalOf, numberIn}
 use Rattle.decimal.specs.Examples as decimal-examples
 use Rattle.fields.specs.Field.{fieldAt}
 use Rattle.plan.specs.Tables.{slotOf, otherCodes}
-use Rattle.plan.specs.Plan.{totalOf, sumOf, runCounts, runLengths, firstLength, spotOf, spotFrom, codesOf, allZero, zeroPlan?, planGood, imageGood, volumeGood, leaderGood, slotsGood}
+use Rattle.plan.specs.Plan.{totalOf, sumOf, runCounts, runLengths, firstLength, spotOf, spotFrom, codesOf, allZero, zeroPlan?, planGood, imageGood, firstCodes}
+use Rattle.plan.specs.Plan.{volumeGood, leaderGood, slotsGood}
 use Rattle.verdicts.specs.Tests.{firstFault, textAt}
-use Rattle.checks.specs.Parts.{numbersTests}
+use Rattle.verdicts.specs.Numbers.{numbersTests}
+use Rattle.volume.specs.Volume.{volumeRecord}
 use Rattle.leader.specs.Leader.{leaderRecord}
-use Rattle.image.specs.Image.{imageRecord, imageTests, agreements, lineTests}
-use Rattle.bodies.specs.Bodies.{bodyOf, bodyTests, volumeRecord, trailerTests}
+use Rattle.image.specs.Image.{imageRecord, imageTests, lineTests, agreeTests}
+use Rattle.bodies.specs.Bodies.{bodyOf, bodyTests, trailerTests}
 use Rattle.bodies.specs.Named.{planOf}
-use Rattle.walk.specs.Rule.{fresh, goodState}
+use Rattle.walk.specs.State.{fresh, goodState}
 use Rattle.headers.specs.Header.{headerOf, headerTests, codesAre}
 use Rattle.turns.specs.Turn.{judgeOf, endedOf, shortOf}
-use Rattle.walk.specs.Turn.{walkOf, nextOf, badStop}
+use Rattle.walk.specs.Walk.{walkOf, nextOf, badStop}
 use Rattle.walk.specs.Said.{stopAs}
 
 -- a number of several bytes, as an answer
@@ -90,5 +93,8 @@ due =
     ∷ [])
 
 pub p-table : answers ≡ due
-unfolding written decimalOf numberOf mantissaOf exponentOf twoAt fourAt placeOf fieldAt slotOf otherCodes totalOf sumOf runCounts runLengths firstLength spotOf spotFrom codesOf allZero zeroPlan? planGood imageGood volumeGood leaderGood slotsGood firstFault textAt bodyOf bodyTests imageRecord imageTests numbersTests agreements lineTests volumeRecord leaderRecord trailerTests planOf goodState walkOf judgeOf headerOf headerTests codesAre endedOf shortOf nextOf badStop
+unfolding written decimalOf numberIn mantissaOf exponentOf twoAt fourAt placeOf fieldAt slotOf otherCodes totalOf sumOf runCounts runLengths
+    firstLength spotOf spotFrom codesOf firstCodes allZero zeroPlan? planGood imageGood volumeGood leaderGood slotsGood firstFault textAt bodyOf bodyTests
+    imageRecord imageTests numbersTests agreeTests lineTests volumeRecord leaderRecord trailerTests planOf goodState walkOf judgeOf headerOf
+    headerTests codesAre endedOf shortOf nextOf badStop
 p-table = refl

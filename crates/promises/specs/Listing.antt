@@ -1,10 +1,11 @@
--- The listing in whatever pieces its input comes: what the program does, turn by turn, with the bytes held of the next record and the bytes still to come. Assumes nothing.
+-- The listing in whatever pieces its input comes: what the program does, turn by turn, with the bytes held of the next record and the bytes still to
+-- come. Assumes nothing.
 use Prim.Native.Nat.{ℕ, _+_, _≤_}
 use mathlib.Core.Path.{_≡_}
 use mathlib.Core.Bool.{true, false}
 use mathlib.Core.List.{List, [], _++_}
 use lib.ListN.{length}
-use Rattle.walk.specs.Rule.{startOf}
+use Rattle.walk.specs.State.{startOf}
 use Rattle.walk.specs.declared.State.{State}
 use Rattle.turns.specs.declared.Stop.{Stop}
 use Rattle.turns.specs.declared.Stop.the-variants.{Wait, Pause, Complete as Complete′, Refused as Refused′}
@@ -22,7 +23,8 @@ pub data Lists : State → List ℕ → List ℕ → Row → Type 0 where
   -- more is wanted, and the input has ended: the turn is asked again, closed
   ended : {st : State} {held : List ℕ} {row : Row} (m : ℕ) → toldOf st held false .say ≡ Want m → toldOf st held true .say ≡ Last row → Lists st held [] row
   -- a record has passed: its row is printed, and nothing is held any more
-  next : {st : State} {held rest : List ℕ} {row : Row} (r : Row) → toldOf st held false .say ≡ Next r → Lists (toldOf st held false .state) [] rest row → Lists st held rest row
+  next : {st : State} {held rest : List ℕ} {row : Row} (r : Row) → toldOf st held false .say ≡ Next r
+      → Lists (toldOf st held false .state) [] rest row → Lists st held rest row
   -- the last row
   last : {st : State} {held rest : List ℕ} {row : Row} → toldOf st held false .say ≡ Last row → Lists st held rest row
 

@@ -4,8 +4,8 @@ use mathlib.Core.List.{List}
 use mathlib.Core.Bool.{Bool}
 use lib.ListN.{drop}
 use Rattle.words.specs.Tests.{pick}
-use Rattle.walk.specs.Rule.{goodState, nextSpot}
-use Rattle.walk.specs.Turn.{turnOf, nextOf}
+use Rattle.walk.specs.State.{goodState, nextDue}
+use Rattle.walk.specs.Walk.{turnOf, nextOf}
 use Rattle.walk.specs.declared.State.{State}
 use Rattle.turns.specs.declared.Turn.{Turn}
 use Rattle.turns.specs.declared.Turn.the-variants.{Pass, Halt}
@@ -20,5 +20,5 @@ unfoldable pub usedOf : ℕ → State → List ℕ → Bool → ℕ
 usedOf zero st b closed = 0
 usedOf (suc n) st b closed =
     pick (goodState st)
-    (onPass (turnOf st b closed) (nextSpot st .length + usedOf n (nextOf st b) (drop (nextSpot st .length) b) closed))
+    (onPass (turnOf st b closed) (nextDue st .length + usedOf n (nextOf st b) (drop (nextDue st .length) b) closed))
     0

@@ -7,7 +7,8 @@ use lib.ListN.{length, getD, take, drop}
 use Rattle.words.specs.Words.{byteAt, fourAt, placeOf}
 use Rattle.decimal.specs.declared.Form.the-variants.{I8}
 use Rattle.plan.specs.declared.Plan.{Plan}
-use Rattle.promises.specs.Rules.{Numbered, Record, ImageDescriptor, Line, lineDue}
+use Rattle.promises.specs.Rules.{Record, Line}
+use Rattle.promises.specs.Newest.{Numbered, ImageDescriptor, lineDue}
 
 -- ---- lines
 

@@ -6,7 +6,7 @@ use mathlib.Core.Bool.{Bool}
 use lib.ListN.{replicate}
 use Rattle.words.specs.Tests.{pick}
 use Rattle.decimal.specs.Text.{bytes}
-use Rattle.plan.specs.Plan.{codesOf, firstLength}
+use Rattle.plan.specs.Plan.{firstLength, firstCodes}
 use Rattle.plan.specs.declared.Codes.{Codes}
 use Rattle.plan.specs.declared.Plan.{Plan}
 use Rattle.promises.specs.Rules.{concat}
@@ -20,8 +20,8 @@ unfoldable pub made : ℕ → Codes → ℕ → List ℕ → List ℕ
 made n c long rest = four n ++ (c .one ∷ c .two ∷ c .three ∷ c .four ∷ (four long ++ rest))
 
 -- the class text of a pointer: the first, the last, or between
-unfoldable pub classOf : Bool → Bool → List ℕ
-classOf a b = pick a (bytes "SARL") (pick b (bytes "SART") (bytes "IMOP"))
+unfoldable pub classBytes : Bool → Bool → List ℕ
+classBytes a b = pick a (bytes "SARL") (pick b (bytes "SART") (bytes "IMOP"))
 
 -- a pointer behind its header: the class, one record, first record length 720
 unfoldable pub pointerParts : List ℕ → List (List ℕ)
@@ -73,4 +73,4 @@ trailerParts = bytes "A " ∷ blanks 706 ∷ []
 
 -- the record of those parts
 unfoldable pub firstOf : ℕ → List (List ℕ) → List ℕ
-firstOf kind ps = made 1 (codesOf kind 0) (firstLength kind) (concat ps)
+firstOf kind ps = made 1 (firstCodes kind) (firstLength kind) (concat ps)

@@ -1,20 +1,10 @@
 -- How a row is printed (document 01, "Lines, rows, sets"): its words and numbers, and one line feed. Assumes nothing.
-use Prim.Native.Nat.{ℕ, zero, suc, _+_, _/_, _%_}
+use Prim.Native.Nat.{ℕ}
 use mathlib.Core.List.{List, [], _∷_, _++_}
-use lib.Dec.{ltb}
-use Rattle.words.specs.Tests.{pick}
 use Rattle.decimal.specs.Text.{bytes}
+use Rattle.writing.specs.Writing.{numeral}
 use Rattle.rows.specs.declared.Row.{Row}
 use Rattle.rows.specs.declared.Row.the-variants.{Image, Line, TooLong, Complete, Refused}
-
--- a number's decimal digits, at most so many, with no 0 in front of another digit
-unfoldable pub numeralOf : ℕ → ℕ → List ℕ
-numeralOf zero n = []
-numeralOf (suc most) n = pick (ltb n 10) ((48 + n) ∷ []) (numeralOf most (n / 10) ++ ((48 + n % 10) ∷ []))
-
--- a number of 64 bits
-abbrev pub numeral : ℕ → List ℕ
-numeral n = numeralOf 20 n
 
 -- a text, then a word and a number
 abbrev pub with : List ℕ → List ℕ → ℕ → List ℕ

@@ -18,8 +18,8 @@ use Rattle.words.specs.declared.Refusal.{Refusal}
 use Rattle.words.proofs.Laws.{both-l, both-r, cases, within-true}
 use Rattle.plan.specs.Plan.{volume, zeroPlan?, volumeGood, planGood}
 use Rattle.plan.specs.declared.Plan.{Plan}
-use Rattle.walk.specs.Rule.{fresh, goodState}
-use Rattle.walk.specs.Turn.{walkOf, beginOf}
+use Rattle.walk.specs.State.{fresh, goodState}
+use Rattle.walk.specs.Walk.{walkOf, beginOf}
 use Rattle.walk.specs.declared.Begun.{Begun}
 use Rattle.walk.specs.declared.State.{State}
 use Rattle.turns.specs.declared.Stop.{Stop}

@@ -6,11 +6,12 @@ use lib.Dec.{eqb}
 use lib.ListN.{length}
 use Rattle.words.specs.Tests.{pick}
 use Rattle.words.specs.Words.{placeOf}
+use Rattle.words.specs.Answer.{refusalAt}
 use Rattle.decimal.specs.declared.Form.the-variants.{I8}
 use Rattle.plan.specs.Plan.{volume}
-use Rattle.checks.specs.Parts.{numberAt}
-use Rattle.walk.specs.Rule.{fresh}
-use Rattle.walk.specs.Turn.{walkOf}
+use Rattle.verdicts.specs.Numbers.{numberAt}
+use Rattle.walk.specs.State.{fresh}
+use Rattle.walk.specs.Walk.{walkOf}
 use Rattle.turns.specs.declared.Stop.{Stop}
 use Rattle.turns.specs.declared.Stop.the-variants.{Wait, Pause, Complete, Refused as Refused′}
 use Rattle.walk.specs.declared.Walked.{Walked}
@@ -19,7 +20,7 @@ use Rattle.sets.specs.declared.Agreement.the-variants.{Agrees, Refused}
 
 -- 12: the set differs from its directory, at that place in it
 abbrev pub differs : ℕ → Agreement
-differs at = Refused (record { number = 12; «record» = 0; place = at })
+differs at = Refused (refusalAt 12 at)
 
 -- the byte of pointer p's record count (101 in its record, which starts at 360p), and the count that stands there
 abbrev pub countByte : ℕ → ℕ

@@ -1,6 +1,5 @@
 // The set check (document 01, "Lines, rows, sets"): the record counts of a product's files, in pointer
 // order, against the product's closed directory.
-use decimal::Form;
 use turns::Stop;
 use walk::State;
 use words::Refusal;
@@ -19,11 +18,7 @@ pub enum Agreement {
 fn differing(place: u64) -> Agreement
     ensures { λ r. ⌜ r ≡ differs place ⌝ }
 {
-    Agreement::Refused(Refusal {
-        number: 12,
-        record: 0,
-        place,
-    })
+    Agreement::Refused(words::at_place(12, place))
 }
 
 // The first pointer whose count differs.
@@ -34,7 +29,7 @@ fn compare(directory: &[u8], counts: &[u64]) -> Agreement
     let mut i = 0;
     while i < counts.len() {
         let byte = 360 * (i + 1) + 101;
-        if counts[i] != checks::number_at(directory, byte, Form::I8) {
+        if counts[i] != volume::count_at(directory, byte) {
             return differing(words::place(byte) as u64);
         }
         i += 1;

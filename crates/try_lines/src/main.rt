@@ -1,8 +1,8 @@
 // Runs examples of the line view, the row copy and the set check. The commands come on standard input,
-// one to a line; tests/lines.py makes them and what is to be answered. The program holds 65,536 bytes.
+// one to a line; tests/examples/lines.py makes them and what is to be answered. The program holds 65,536 bytes.
 //
 //   # TEXT                   is printed as it stands
-//   c, p, b, q               change the bytes held (script::change)
+//   c, p, b, q               change the bytes held (try_commands::change)
 //   l LENGTH LINE            the view of a line in the first LENGTH bytes; then of the bytes that the
 //                            caller is handed as its pixels their count and their check number
 //   r LENGTH LINE MANY OLD   the row copy to a row of MANY samples that were all OLD, at most 256; then
@@ -12,8 +12,8 @@ ghost use Prim.Native.Nat.{_≤_};
 ghost use lib.ListN.{length};
 use copies::Copied;
 use lines::View;
-use script::Taken;
 use sets::Agreement;
+use try_commands::Taken;
 
 // One number for bytes in their order, printed in place of what may be many: one other byte changes it.
 fn check_of(bytes: &[u8]) -> u64 {
@@ -27,27 +27,27 @@ fn check_of(bytes: &[u8]) -> u64 {
 }
 
 fn say_wait(n: u64) {
-    script::say(b"WAIT");
-    script::say_number(n);
+    try_commands::say(b"WAIT");
+    try_commands::say_number(n);
 }
 
 fn viewed(bytes: &[u8], k: u64) {
     let v = lines::line_view(bytes, k);
     match v {
         View::Shown(start, data, left) => {
-            script::say(b"SHOWN");
-            script::say_number(start);
-            script::say_number(data);
-            script::say_number(left);
+            try_commands::say(b"SHOWN");
+            try_commands::say_number(start);
+            try_commands::say_number(data);
+            try_commands::say_number(left);
         }
         View::Wait(n) => say_wait(n),
-        View::Refused(r) => script::say_refusal(r),
+        View::Refused(r) => try_commands::say_refusal(r),
     }
     let px = lines::pixels(bytes, k);
-    script::say(b" PIXELS");
-    script::say_number(px.len() as u64);
-    script::say_number(check_of(px));
-    script::say(b"\n");
+    try_commands::say(b" PIXELS");
+    try_commands::say_number(px.len() as u64);
+    try_commands::say_number(check_of(px));
+    try_commands::say(b"\n");
 }
 
 fn wide(x: u16) -> u64 {
@@ -55,13 +55,13 @@ fn wide(x: u16) -> u64 {
 }
 
 fn say_row(row: &[u16]) {
-    script::say(b" ROW");
+    try_commands::say(b" ROW");
     let mut i = 0;
     while i < row.len() {
-        script::say_number(wide(row[i]));
+        try_commands::say_number(wide(row[i]));
         i += 1;
     }
-    script::say(b"\n");
+    try_commands::say(b"\n");
 }
 
 // The lent row is what is copied to, and nothing else is printed of it.
@@ -69,20 +69,20 @@ fn copied(bytes: &[u8], k: u64, row: &mut [u16]) {
     let c = copies::row_copy(bytes, k, row);
     match c {
         Copied::Done(n) => {
-            script::say(b"COPIED");
-            script::say_number(n);
+            try_commands::say(b"COPIED");
+            try_commands::say_number(n);
         }
         Copied::Wait(n) => say_wait(n),
-        Copied::Refused(r) => script::say_refusal(r),
+        Copied::Refused(r) => try_commands::say_refusal(r),
     }
     say_row(row);
 }
 
 fn row_of(line: &[u8], k: Taken, bytes: &[u8]) {
-    let many = script::after(line, k);
-    let old = script::after(line, many);
+    let many = try_commands::after(line, k);
+    let old = try_commands::after(line, many);
     let mut row = [(old.value % 65536) as u16; 256];
-    let m = script::within(many.value, 256);
+    let m = try_commands::within(many.value, 256);
     copied(bytes, k.value, &mut row[..m]);
 }
 
@@ -93,7 +93,7 @@ fn counts_of(line: &[u8], before: Taken, counts: &mut [u64]) -> usize
     let mut t = before;
     let mut i = 0;
     while i < counts.len() && t.next < line.len() {
-        t = script::after(line, t);
+        t = try_commands::after(line, t);
         counts[i] = t.value;
         i += 1;
     }
@@ -103,10 +103,10 @@ fn counts_of(line: &[u8], before: Taken, counts: &mut [u64]) -> usize
 fn checked(directory: &[u8], counts: &[u64]) {
     let a = sets::check(directory, counts);
     match a {
-        Agreement::Agrees => script::say(b"AGREES"),
-        Agreement::Refused(r) => script::say_refusal(r),
+        Agreement::Agrees => try_commands::say(b"AGREES"),
+        Agreement::Refused(r) => try_commands::say_refusal(r),
     }
-    script::say(b"\n");
+    try_commands::say(b"\n");
 }
 
 fn set_of(line: &[u8], long: Taken, directory: &[u8]) {
@@ -117,8 +117,8 @@ fn set_of(line: &[u8], long: Taken, directory: &[u8]) {
 
 // The commands that ask something of the first bytes held.
 fn ask(line: &[u8], op: u8, long: Taken, held: &[u8]) {
-    let bytes = script::part(held, 0, long.value);
-    let k = script::after(line, long);
+    let bytes = try_commands::part(held, 0, long.value);
+    let k = try_commands::after(line, long);
     if op == b'l' {
         viewed(bytes, k.value);
     } else if op == b'r' {
@@ -133,12 +133,12 @@ fn command(line: &[u8], held: &mut [u8]) {
         return;
     }
     let op = line[0];
-    let a = script::first(line);
+    let a = try_commands::first(line);
     if op == b'#' {
-        script::say(line);
-        script::say(b"\n");
+        try_commands::say(line);
+        try_commands::say(b"\n");
     } else {
-        script::change(line, op, a, held);
+        try_commands::change(line, op, a, held);
         ask(line, op, a, held);
     }
 }
@@ -146,7 +146,7 @@ fn command(line: &[u8], held: &mut [u8]) {
 fn run(input: &[u8], held: &mut [u8]) {
     let mut at = 0;
     while at < input.len() {
-        let end = script::line_end(input, at);
+        let end = try_commands::line_end(input, at);
         command(&input[at..end], held);
         at = end + 1;
     }

@@ -1,8 +1,8 @@
-// Runs examples of the listing. The commands come on standard input, one to a line; tests/listing.py
+// Runs examples of the listing. The commands come on standard input, one to a line; tests/examples/listing.py
 // makes them and what is to be answered. The program holds 65,536 bytes.
 //
 //   # TEXT           is printed as it stands
-//   c, p, b, q       change the bytes held (script::change)
+//   c, p, b, q       change the bytes held (try_commands::change)
 //   l LENGTH PIECE   the listing of the first LENGTH bytes, as if they arrived in pieces of at most PIECE
 //                    bytes; as in streams::list no more arrive than a turn wants, and once none are left
 //                    the turn is asked again, closed
@@ -24,7 +24,7 @@ struct Going {
 }
 
 fn say_start(line: &[u8; 96], n: usize) {
-    script::say(script::part(line, 0, n as u64));
+    try_commands::say(try_commands::part(line, 0, n as u64));
 }
 
 fn print(row: Row) {
@@ -36,9 +36,9 @@ fn print(row: Row) {
 // More bytes arrive: as many as are wanted, at most a piece and at most what is left. None is the end.
 fn arrive(g: Going, long: usize, want: u64, piece: u64) -> Going {
     let mut next = g;
-    let to = script::within(g.to, long);
-    let most = script::within(want, long - to);
-    let more = script::within(piece, most);
+    let to = try_commands::within(g.to, long);
+    let most = try_commands::within(want, long - to);
+    let more = try_commands::within(piece, most);
     next.to = (to + more) as u64;
     next.closed = more == 0;
     next
@@ -46,8 +46,8 @@ fn arrive(g: Going, long: usize, want: u64, piece: u64) -> Going {
 
 // One turn on what has arrived of the next record, and what it asks for.
 fn advance(g: Going, file: &[u8], piece: u64) -> Going {
-    let to = script::within(g.to, file.len());
-    let from = script::within(g.from, to);
+    let to = try_commands::within(g.to, file.len());
+    let from = try_commands::within(g.from, to);
     let st = g.state;
     let t = listing::turn(st, &file[from..to], g.closed);
     let after = t.state;
@@ -93,21 +93,24 @@ fn command(line: &[u8], held: &mut [u8]) {
         return;
     }
     let op = line[0];
-    let a = script::first(line);
+    let a = try_commands::first(line);
     if op == b'#' {
-        script::say(line);
-        script::say(b"\n");
+        try_commands::say(line);
+        try_commands::say(b"\n");
     } else if op == b'l' {
-        listed(script::part(held, 0, a.value), script::after(line, a).value);
+        listed(
+            try_commands::part(held, 0, a.value),
+            try_commands::after(line, a).value,
+        );
     } else {
-        script::change(line, op, a, held);
+        try_commands::change(line, op, a, held);
     }
 }
 
 fn run(input: &[u8], held: &mut [u8]) {
     let mut at = 0;
     while at < input.len() {
-        let end = script::line_end(input, at);
+        let end = try_commands::line_end(input, at);
         command(&input[at..end], held);
         at = end + 1;
     }

@@ -1,5 +1,5 @@
 // Runs examples of written numbers and of the field reader. The commands come on standard input,
-// one to a line; tests/numbers.py makes them and what is to be answered.
+// one to a line; tests/examples/numbers.py makes them and what is to be answered.
 //
 //   # TEXT              is printed as it stands
 //   d FORM:TEXT         what TEXT says in form 1 to 7 (I4 I6 I8 I16 F8.3 F16.7 E20.13)
@@ -29,43 +29,43 @@ fn form_of(n: u64) -> Form {
 fn say_written(w: Written) {
     match w {
         Written::Number(m, e) => {
-            script::say(b"VALUE");
-            script::say_signed(m);
-            script::say_signed(e);
+            try_commands::say(b"VALUE");
+            try_commands::say_signed(m);
+            try_commands::say_signed(e);
         }
-        Written::Blank => script::say(b"BLANK"),
-        Written::Bad => script::say(b"BAD"),
+        Written::Blank => try_commands::say(b"BLANK"),
+        Written::Bad => try_commands::say(b"BAD"),
     }
-    script::say(b"\n");
+    try_commands::say(b"\n");
 }
 
 fn say_field(f: Field) {
     match f {
         Field::Value(m, e) => {
-            script::say(b"VALUE");
-            script::say_signed(m);
-            script::say_signed(e);
+            try_commands::say(b"VALUE");
+            try_commands::say_signed(m);
+            try_commands::say_signed(e);
         }
-        Field::Blank => script::say(b"BLANK"),
-        Field::Refused(r) => script::say_refusal(r),
+        Field::Blank => try_commands::say(b"BLANK"),
+        Field::Refused(r) => try_commands::say_refusal(r),
     }
-    script::say(b"\n");
+    try_commands::say(b"\n");
 }
 
 fn say_word(n: u64) {
-    script::say(b"NUMBER");
-    script::say_number(n);
-    script::say(b"\n");
+    try_commands::say(b"NUMBER");
+    try_commands::say_number(n);
+    try_commands::say(b"\n");
 }
 
 // The commands that ask something of the record's first bytes.
 fn ask(line: &[u8], op: u8, held: &[u8]) {
-    let a = script::first(line);
-    let b = script::after(line, a);
-    let c = script::after(line, b);
-    let two = script::within(b.value, held.len());
-    let three = script::within(c.value, held.len());
-    let at = script::within(a.value, usize::MAX);
+    let a = try_commands::first(line);
+    let b = try_commands::after(line, a);
+    let c = try_commands::after(line, b);
+    let two = try_commands::within(b.value, held.len());
+    let three = try_commands::within(c.value, held.len());
+    let at = try_commands::within(a.value, usize::MAX);
     if op == b'f' {
         say_field(fields::listed_field(&held[..two], a.value));
     } else if op == b'a' {
@@ -82,14 +82,14 @@ fn command(line: &[u8], held: &mut [u8]) {
         return;
     }
     let op = line[0];
-    let a = script::first(line);
+    let a = try_commands::first(line);
     if op == b'#' {
-        script::say(line);
-        script::say(b"\n");
+        try_commands::say(line);
+        try_commands::say(b"\n");
     } else if op == b'd' {
-        say_written(decimal::read(script::text(line, a), form_of(a.value)));
+        say_written(decimal::read(try_commands::text(line, a), form_of(a.value)));
     } else {
-        script::change(line, op, a, held);
+        try_commands::change(line, op, a, held);
         ask(line, op, held);
     }
 }
@@ -97,7 +97,7 @@ fn command(line: &[u8], held: &mut [u8]) {
 fn run(input: &[u8], held: &mut [u8]) {
     let mut at = 0;
     while at < input.len() {
-        let end = script::line_end(input, at);
+        let end = try_commands::line_end(input, at);
         command(&input[at..end], held);
         at = end + 1;
     }

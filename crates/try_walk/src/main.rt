@@ -1,4 +1,4 @@
-// Runs examples of the walk. The commands come on standard input, one to a line; tests/walk.py makes
+// Runs examples of the walk. The commands come on standard input, one to a line; tests/examples/walk.py makes
 // them and what is to be answered. The program holds 65,536 bytes and one state.
 //
 //   # TEXT                       is printed as it stands
@@ -12,7 +12,7 @@
 //   s                            the place of the next record's first byte
 //   v                            the state's 42 numbers
 //   n INDEX VALUE                one of them is set
-use script::Taken;
+use try_commands::Taken;
 use turns::Stop;
 use walk::Beginning;
 use walk::State;
@@ -22,38 +22,38 @@ fn say_walked(w: Walked) {
     let stop = w.stop;
     match stop {
         Stop::Wait(n) => {
-            script::say(b"WAIT");
-            script::say_number(n);
+            try_commands::say(b"WAIT");
+            try_commands::say_number(n);
         }
-        Stop::Pause => script::say(b"PAUSE"),
-        Stop::Complete => script::say(b"COMPLETE"),
-        Stop::Refused(r) => script::say_refusal(r),
+        Stop::Pause => try_commands::say(b"PAUSE"),
+        Stop::Complete => try_commands::say(b"COMPLETE"),
+        Stop::Refused(r) => try_commands::say_refusal(r),
     }
-    script::say(b" COUNT");
-    script::say_number(w.count);
-    script::say(b" PASSED");
+    try_commands::say(b" COUNT");
+    try_commands::say_number(w.count);
+    try_commands::say(b" PASSED");
     let st = w.state;
-    script::say_number(st.passed);
-    script::say(b"\n");
+    try_commands::say_number(st.passed);
+    try_commands::say(b"\n");
 }
 
 fn begun(st: State, kind: u64) -> State {
     let b = st.begin(kind);
     let answer = b.answer;
     match answer {
-        Beginning::Fresh => script::say(b"BEGUN"),
-        Beginning::Unknown(r) => script::say_refusal(r),
+        Beginning::Fresh => try_commands::say(b"BEGUN"),
+        Beginning::Unknown(r) => try_commands::say_refusal(r),
     }
-    script::say(b"\n");
+    try_commands::say(b"\n");
     b.state
 }
 
 fn walked(line: &[u8], op: u8, held: &[u8], st: State) -> State {
-    let from = script::first(line);
-    let long = script::after(line, from);
-    let closed = script::after(line, long);
-    let budget = script::after(line, closed);
-    let bytes = script::part(held, from.value, long.value);
+    let from = try_commands::first(line);
+    let long = try_commands::after(line, from);
+    let closed = try_commands::after(line, long);
+    let budget = try_commands::after(line, closed);
+    let bytes = try_commands::part(held, from.value, long.value);
     let w = if op == b't' {
         st.step(bytes, closed.value != 0)
     } else {
@@ -65,7 +65,7 @@ fn walked(line: &[u8], op: u8, held: &[u8], st: State) -> State {
 
 // Number i of the state's pairs: row i / 2, its count or its length.
 fn pair_number(p: plan::Plan, i: u64) -> u64 {
-    let at = script::within(i / 2, 16);
+    let at = try_commands::within(i / 2, 16);
     if i % 2 == 0 {
         p.counts[at]
     } else {
@@ -97,17 +97,17 @@ fn number_of(st: State, i: u64) -> u64 {
 }
 
 fn say_state(st: State) {
-    script::say(b"STATE");
+    try_commands::say(b"STATE");
     let mut i = 0;
     while i < 42 {
-        script::say_number(number_of(st, i));
+        try_commands::say_number(number_of(st, i));
         i += 1;
     }
-    script::say(b"\n");
+    try_commands::say(b"\n");
 }
 
 fn with_pair(p: plan::Plan, i: u64, v: u64) -> plan::Plan {
-    let at = script::within(i / 2, 16);
+    let at = try_commands::within(i / 2, 16);
     let mut q = p;
     if i % 2 == 0 {
         q.counts[at] = v;
@@ -157,9 +157,9 @@ fn ask(line: &[u8], op: u8, a: Taken, st: State) -> State {
         return begun(st, a.value);
     }
     if op == b's' {
-        script::say(b"START");
-        script::say_number(st.start());
-        script::say(b"\n");
+        try_commands::say(b"START");
+        try_commands::say_number(st.start());
+        try_commands::say(b"\n");
         return st;
     }
     if op == b'v' {
@@ -167,7 +167,7 @@ fn ask(line: &[u8], op: u8, a: Taken, st: State) -> State {
         return st;
     }
     if op == b'n' {
-        return with_number(st, a.value, script::after(line, a).value);
+        return with_number(st, a.value, try_commands::after(line, a).value);
     }
     st
 }
@@ -177,10 +177,10 @@ fn command(line: &[u8], held: &mut [u8], st: State) -> State {
         return st;
     }
     let op = line[0];
-    let a = script::first(line);
+    let a = try_commands::first(line);
     if op == b'#' {
-        script::say(line);
-        script::say(b"\n");
+        try_commands::say(line);
+        try_commands::say(b"\n");
         return st;
     }
     if op == b'w' {
@@ -189,7 +189,7 @@ fn command(line: &[u8], held: &mut [u8], st: State) -> State {
     if op == b't' {
         return walked(line, op, held, st);
     }
-    script::change(line, op, a, held);
+    try_commands::change(line, op, a, held);
     ask(line, op, a, st)
 }
 
@@ -197,7 +197,7 @@ fn run(input: &[u8], held: &mut [u8]) {
     let mut at = 0;
     let mut st = State::none();
     while at < input.len() {
-        let end = script::line_end(input, at);
+        let end = try_commands::line_end(input, at);
         st = command(&input[at..end], held, st);
         at = end + 1;
     }

@@ -1,4 +1,6 @@
--- What the fault of a record can be, by going through the tests of every record once: its place lies in the record's first 10,000 bytes, so that its place in the file fits 64 bits; its number is at most 10; and it is 2 only where the record is shorter than its fields need. The tables' rows are tested by one computation.
+-- What the fault of a record can be, by going through the tests of every record once: its place lies in the record's first 10,000 bytes, so that its place
+-- in the file fits 64 bits; its number is at most 10; and it is 2 only where the record is shorter than its fields need. The tables' rows are tested by one
+-- computation.
 use Prim.Native.Nat.{ℕ, _+_, _≤_, _<_}
 use mathlib.Core.Path.{_≡_, refl}
 use mathlib.Core.List.{List, [], _∷_, _++_}
@@ -26,14 +28,15 @@ use Rattle.plan.specs.Plan.{volume, leader, image}
 use Rattle.plan.specs.declared.Codes.{Codes}
 use Rattle.plan.specs.declared.Plan.{Plan}
 use Rattle.verdicts.specs.Tests.{Test, firstFault, each, unreadNumber, unreadPlace, countTests, numberTests}
-use Rattle.checks.specs.Parts.{at, numbers, rowTests, numbersTests}
-use Rattle.checks.specs.declared.Number.{Number}
+use Rattle.verdicts.specs.Numbers.{Number, at, rowTests, numbersTests}
+use Rattle.volume.specs.Volume.{volumeNumbers, pointerNumbers, volumeTests, pointerTests, volumeRecord}
 use Rattle.verdicts.specs.declared.Verdict.{Verdict}
 use Rattle.verdicts.specs.declared.Verdict.the-variants.{Fine, Fault}
 use Rattle.leader.specs.Leader.{pairs, pairTests, countAt, fieldsTests, listedTests, leaderTests, leaderRecord}
 use Rattle.leader.specs.declared.Pair.{Pair}
-use Rattle.image.specs.Image.{agreements, imageTests, lineTests, imageRecord}
-use Rattle.bodies.specs.Bodies.{volumeTests, pointerTests, trailerTests, volumeRecord, bodyTests, bodyOf}
+use Rattle.image.specs.Image.{imageNumbers, agreeTests, agreements, imageTests, lineTests, imageRecord}
+use Rattle.bodies.specs.Bodies.{trailerTests, firstTests, bodyTests, bodyOf}
+use Rattle.bodies.specs.Named.{firstOf, foundOf}
 use Rattle.headers.specs.Header.{headerTests, headerOf}
 use Rattle.turns.specs.Turn.{Near}
 
@@ -79,7 +82,8 @@ module _ (need : ℕ) (r : List ℕ) where
   can-append [] us a b = b
   can-append (t ∷ ts) us a b = (a .0, can-append ts us (a .1) b)
 
-  can-each : {A : Type 0} (g : A → List Test) (f : A → Bool) → ((x : A) → f x ≡ true → AllCan need r (g x)) → (xs : List A) → every f xs ≡ true → AllCan need r (each g xs)
+  can-each : {A : Type 0} (g : A → List Test) (f : A → Bool) → ((x : A) → f x ≡ true → AllCan need r (g x)) →
+      (xs : List A) → every f xs ≡ true → AllCan need r (each g xs)
   unfolding AllCan
   can-each g f h [] e = tt
   can-each g f h (x ∷ xs) e = can-append (g x) (each g xs) (h x (both-l (f x) (every f xs) e)) (can-each g f h xs (both-r (f x) (every f xs) e))
@@ -138,10 +142,10 @@ module _ (need : ℕ) (r : List ℕ) where
         go true ts h = tt
         go false ts h = h
 
-    -- the rows of a table from one to before another
-    numbers-can : (from to : ℕ) → every (λ (x : Number). ends (x .byte) (x .form)) (slice from to numbers) ≡ true → AllCan need r (numbersTests r from to)
+    -- the rows of a table, and those from one to before another
+    numbers-can : (xs : List Number) → every (λ (x : Number). ends (x .byte) (x .form)) xs ≡ true → AllCan need r (numbersTests r xs)
     unfolding numbersTests
-    numbers-can from to e = can-each (rowTests r) (λ x. ends (x .byte) (x .form)) row-can (slice from to numbers) e
+    numbers-can xs e = can-each (rowTests r) (λ x. ends (x .byte) (x .form)) row-can xs e
 
     fields-can : (from to : ℕ) → every (λ (x : Listed). ends (x .first) (x .form)) (slice from to table) ≡ true → AllCan need r (fieldsTests r from to)
     unfolding fieldsTests
@@ -155,8 +159,8 @@ volumeNeed run = pick (eqb run 0) 360 (pick (eqb run 1) 360 0)
 volume-can : (run m k : ℕ) (r : List ℕ) → AllCan (volumeNeed run) r (volumeRecord run m k r)
 unfolding volumeRecord volumeTests pointerTests AllCan placeOf
 volume-can run m k r =
-    can-pick r (eqb run 0) 360 _ _ _ (other 8 12 (omega arith) (omega arith) (omega arith), numbers-can 360 r (omega arith) 0 1 refl)
-    (can-pick r (eqb run 1) 360 0 _ [] (other 8 64 (omega arith) (omega arith) (omega arith), numbers-can 360 r (omega arith) 1 3 refl) tt)
+    can-pick r (eqb run 0) 360 _ _ _ (other 8 12 (omega arith) (omega arith) (omega arith), numbers-can 360 r (omega arith) volumeNumbers refl)
+    (can-pick r (eqb run 1) 360 0 _ [] (other 8 64 (omega arith) (omega arith) (omega arith), numbers-can 360 r (omega arith) pointerNumbers refl) tt)
 
 abbrev leaderNeed : ℕ → ℕ
 leaderNeed run = pick (eqb run 0) 720 (pick (eqb run 1) 4096 (pick (eqb run 2) 1620 0))
@@ -164,7 +168,8 @@ leaderNeed run = pick (eqb run 0) 720 (pick (eqb run 1) 4096 (pick (eqb run 2) 1
 leader-can : (run : ℕ) (r : List ℕ) → AllCan (leaderNeed run) r (leaderRecord run r)
 unfolding leaderRecord leaderTests AllCan placeOf
 leader-can run r =
-    can-pick r (eqb run 0) 720 _ _ _ (other 8 12 (omega arith) (omega arith) (omega arith), can-each 720 r (pairTests r) _ (pair-can 720 r (omega arith)) pairs refl)
+    can-pick r (eqb run 0) 720 _ _ _
+    (other 8 12 (omega arith) (omega arith) (omega arith), can-each 720 r (pairTests r) _ (pair-can 720 r (omega arith)) pairs refl)
     (can-pick r (eqb run 1) 4096 _ _ _ (fields-can 4096 r (omega arith) 0 10 refl)
     (can-pick r (eqb run 2) 1620 0 _ [] (fields-can 1620 r (omega arith) 10 13 refl) tt))
 
@@ -172,13 +177,13 @@ abbrev imageNeed : ℕ → ℕ
 imageNeed run = pick (eqb run 0) 720 0
 
 image-can : (run w k : ℕ) (r : List ℕ) → AllCan (imageNeed run) r (imageRecord run w k r)
-unfolding imageRecord imageTests agreements lineTests AllCan placeOf
+unfolding imageRecord imageTests agreeTests lineTests AllCan placeOf
 image-can run w k r =
     can-pick r (eqb run 0) 720 0 _ _ (
       other 8 12 (omega arith) (omega arith) (omega arith),
       (
         other 8 428 (omega arith) (omega arith) (omega arith),
-        can-append 720 r (numbersTests r 3 11) (agreements r) (numbers-can 720 r (omega arith) 3 11 refl) (agreed, (agreed, (agreed, tt))),
+        can-append 720 r (numbersTests r imageNumbers) (agreements r) (numbers-can 720 r (omega arith) imageNumbers refl) (agreed, (agreed, (agreed, tt))),
       ),
     )
     (lined 12 (omega arith), (lined 16 (omega arith), (lined 20 (omega arith), tt)))
@@ -205,6 +210,15 @@ body-can kind run p k r =
 
 pub body-near : (kind run : ℕ) (p : Plan) (k : ℕ) (r : List ℕ) → Near (bodyOf kind run p k r)
 body-near kind run p k r = near-of (needOf kind run) r (bodyOf kind run p k r) (body-can kind run p k r)
+
+-- what is found in a body, with the plan behind it
+pub found-near : (kind run : ℕ) (p : Plan) (k : ℕ) (r : List ℕ) → Near (foundOf kind run p k r .verdict)
+unfolding foundOf firstOf firstTests bodyOf bodyTests volumeRecord leaderRecord imageRecord
+found-near kind run p k r = go (eqb run 0)
+  where
+    go : (b : Bool) → Near (pick b (firstOf kind r) (record { verdict = bodyOf kind run p k r; plan = p }) .verdict)
+    go true = body-near kind 0 p k r
+    go false = body-near kind run p k r
 
 pub header-can : (ordinal : ℕ) (c : Codes) (long : ℕ) (b : List ℕ) → FaultCan 0 b (headerOf ordinal c long b)
 unfolding headerOf headerTests AllCan

@@ -5,15 +5,18 @@ use mathlib.Core.Bool.{Bool}
 use lib.ListN.{length, take}
 use lib.Dec.{ltb, leb, eqb}
 use Rattle.words.specs.Tests.{pick}
-use Rattle.plan.specs.Plan.{totalOf, codesOf}
+use Rattle.plan.specs.Plan.{totalOf}
 use Rattle.plan.specs.declared.Plan.{Plan}
-use Rattle.plan.specs.declared.Spot.{Spot}
+use Rattle.plan.specs.declared.Due.{Due}
 use Rattle.headers.specs.Header.{headerOf}
 use Rattle.bodies.specs.Bodies.{bodyOf}
+use Rattle.bodies.specs.Named.{planOf}
+use Rattle.bodies.specs.declared.Found.{Found}
 use Rattle.verdicts.specs.declared.Verdict.{Verdict}
 use Rattle.verdicts.specs.declared.Verdict.the-variants.{Fine, Fault}
 use Rattle.turns.specs.declared.Stop.{Stop}
 use Rattle.turns.specs.declared.Stop.the-variants.{Wait, Complete, Refused}
+use Rattle.turns.specs.declared.Judged.{Judged}
 use Rattle.turns.specs.declared.Turn.{Turn}
 use Rattle.turns.specs.declared.Turn.the-variants.{Pass, Halt}
 
@@ -39,11 +42,31 @@ abbrev pub Near : Verdict → Type 0
 Near Fine = Unit {0}
 Near (Fault n at) = at ≤ 10000
 
--- steps 3 to 7 (5, the header, is `headerOf`), for record k (from 0), which stands at that spot
-unfoldable pub judgeOf : ℕ → Plan → ℕ → Spot → List ℕ → Bool → Turn
-judgeOf kind p k s b closed =
-    pick (leb (totalOf kind p) k) (Halt (endedOf (k + 1) (s .start) (length b) closed))
-    (pick (ltb (length b) 12) (Halt (shortOf (k + 1) (s .start) closed (12 - length b)))
-    (onFine (headerOf (k + 1) (codesOf kind (s .run)) (s .length) b) (k + 1) (s .start)
-    (pick (ltb (length b) (s .length)) (Halt (shortOf (k + 1) (s .start) closed (s .length - length b)))
-    (onFine (bodyOf kind (s .run) p k (take (s .length) b)) (k + 1) (s .start) Pass))))
+-- steps 3 to 7 (5, the header, is `headerOf`), for the record d that is due behind k others
+unfoldable pub judgeOf : ℕ → Plan → ℕ → Due → List ℕ → Bool → Turn
+judgeOf kind p k d b closed =
+    pick (leb (totalOf kind p) k) (Halt (endedOf (d .ordinal) (d .start) (length b) closed))
+    (pick (ltb (length b) 12) (Halt (shortOf (d .ordinal) (d .start) closed (12 - length b)))
+    (onFine (headerOf (d .ordinal) (d .codes) (d .length) b) (d .ordinal) (d .start)
+    (pick (ltb (length b) (d .length)) (Halt (shortOf (d .ordinal) (d .start) closed (d .length - length b)))
+    (onFine (bodyOf kind (d .run) p k (take (d .length) b)) (d .ordinal) (d .start) Pass))))
+
+-- the plan behind a turn: behind a first record that passes, the one that it names; else as it was
+abbrev pub planIn : Turn → Bool → Plan → Plan → Plan
+planIn Pass first q p = pick first q p
+planIn (Halt x) first q p = p
+
+abbrev pub planBehind : Turn → ℕ → Plan → ℕ → List ℕ → Plan
+planBehind t kind p run r = planIn t (eqb run 0) (planOf kind r) p
+
+unfoldable pub judgedOf : ℕ → Plan → ℕ → Due → List ℕ → Bool → Judged
+judgedOf kind p k d b closed =
+    record { turn = judgeOf kind p k d b closed; plan = planBehind (judgeOf kind p k d b closed) kind p (d .run) (take (d .length) b) }
+
+-- step 7 as the code goes about it: what was found in the body
+abbrev pub passedBy : Verdict → Plan → Plan → Due → Judged
+passedBy Fine q p d = record { turn = Pass; plan = q }
+passedBy (Fault n at) q p d = record { turn = Halt (refusedAt (d .ordinal) (d .start) n at); plan = p }
+
+abbrev pub passedOf : Found → Plan → Due → Judged
+passedOf f p d = passedBy (f .verdict) (f .plan) p d

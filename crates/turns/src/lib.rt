@@ -1,14 +1,15 @@
 // A turn of the walk, once its state is good and its budget is not used up (document 01, "The record and
 // the walk", steps 3 to 7): the record that is due is passed, waited for or refused. No state is kept or
 // moved here: what a turn needs of it is handed in.
+use bodies::Found;
+use plan::Due;
 use plan::Plan;
-use plan::Spot;
 use verdicts::Verdict;
 use words::Refusal;
 ghost use mathlib.Core.Path.{_≡_};
 ghost use Prim.Native.Nat.{_≤_};
-ghost use Rattle.plan.specs.Plan.{runCounts, runLengths, totalOf, Small, Spotted};
-ghost use Rattle.turns.specs.Turn.{Near, refusedAt, endedOf, shortOf, onFine, judgeOf};
+ghost use Rattle.plan.specs.Plan.{runCounts, runLengths, totalOf, Small, Placed, recordsMost};
+ghost use Rattle.turns.specs.Turn.{Near, refusedAt, endedOf, shortOf, passedOf, judgedOf};
 
 // Which stop it was: wait with the count of missing bytes, budget used up, all there, refused.
 pub enum Stop {
@@ -22,6 +23,12 @@ pub enum Stop {
 pub enum Turn {
     Pass,
     Halt(Stop),
+}
+
+// What a turn says, and the plan behind it: a first record that passes names one.
+pub struct Judged {
+    pub turn: Turn,
+    pub plan: Plan,
 }
 
 // A refusal of the record with that ordinal, which starts there in the file.
@@ -61,38 +68,54 @@ fn short(ordinal: u64, start: u64, closed: bool, missing: u64) -> Stop
     Stop::Wait(missing)
 }
 
-// A fault is the refusal of that record; where there is none, the record is passed.
-fn told(v: Verdict, ordinal: u64, start: u64) -> Turn
-    requires { ⌜ (start ≤ 20000000000000) × Near v ⌝ }
-    ensures { λ r. ⌜ r ≡ onFine v ordinal start Turn.Pass ⌝ }
+// The walk stops, and the plan is as it was.
+fn halted(stop: Stop, p: Plan) -> Judged
+    ensures { λ r. ⌜ r ≡ record { turn = Turn.Halt stop; plan = p } ⌝ }
 {
-    match v {
-        Verdict::Fine => Turn::Pass,
-        Verdict::Fault(n, at) => Turn::Halt(refused(ordinal, start, n, at)),
+    Judged {
+        turn: Turn::Halt(stop),
+        plan: p,
     }
 }
 
-// Steps 3 to 7 of a turn, for record k, which stands at that spot.
-pub fn judge(kind: u64, p: Plan, k: u64, s: Spot, b: &[u8], closed: bool) -> Turn
+// Step 7: what was found in the body, and the plan behind a record that passes.
+fn passed(found: Found, p: Plan, d: Due) -> Judged
+    requires { ⌜ Placed d × Near (found .verdict) ⌝ }
+    ensures { λ r. ⌜ r ≡ passedOf found p d ⌝ }
+{
+    let verdict = found.verdict;
+    let plan = found.plan;
+    match verdict {
+        Verdict::Fine => Judged {
+            turn: Turn::Pass,
+            plan,
+        },
+        Verdict::Fault(n, at) => halted(refused(d.ordinal, d.start, n, at), p),
+    }
+}
+
+// Steps 3 to 7 of a turn, for the record that is due behind k others.
+pub fn judge(kind: u64, p: Plan, k: u64, d: Due, b: &[u8], closed: bool) -> Judged
     requires { ⌜ Small (runCounts kind p) (runLengths kind p) ⌝ }
-    requires { ⌜ (k ≤ totalOf kind p) × Spotted s ⌝ }
-    ensures { λ r. ⌜ r ≡ judgeOf kind p k s (now (b .entry)) closed ⌝ }
-    ensures { λ r. ⌜ (r ≡ Turn.Pass → k ≤ 17000000) ⌝ }
+    requires { ⌜ (k ≤ totalOf kind p) × Placed d ⌝ }
+    ensures { λ r. ⌜ r ≡ judgedOf kind p k d (now (b .entry)) closed ⌝ }
+    ensures { λ r. ⌜ (r .turn ≡ Turn.Pass → k ≤ recordsMost) ⌝ }
 {
     let len = b.len() as u64;
     if plan::total(kind, p) <= k {
-        return Turn::Halt(ended(k + 1, s.start, len, closed));
+        return halted(ended(d.ordinal, d.start, len, closed), p);
     }
     if len < 12 {
-        return Turn::Halt(short(k + 1, s.start, closed, 12 - len));
+        return halted(short(d.ordinal, d.start, closed, 12 - len), p);
     }
-    let h = headers::header(k + 1, plan::codes_of(kind, s.run), s.length, b);
-    let Verdict::Fine = h else {
-        return told(h, k + 1, s.start);
-    };
-    if len < s.length {
-        return Turn::Halt(short(k + 1, s.start, closed, s.length - len));
+    let codes = d.codes;
+    let h = headers::header(d.ordinal, codes, d.length, b);
+    if let Verdict::Fault(n, at) = h {
+        return halted(refused(d.ordinal, d.start, n, at), p);
     }
-    let due = s.length as usize;
-    told(bodies::judge(kind, s.run, p, k, &b[..due]), k + 1, s.start)
+    if len < d.length {
+        return halted(short(d.ordinal, d.start, closed, d.length - len), p);
+    }
+    let due = d.length as usize;
+    passed(bodies::judge(kind, d.run, p, k, &b[..due]), p, d)
 }

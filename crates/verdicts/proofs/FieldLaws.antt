@@ -1,4 +1,5 @@
--- What the tests of one number field say in each case of the field and of its sign, by computing them.
+-- What the tests of one number field say in each case of the field and of its sign, by computing them; and that a field handed on has the first fault of
+-- its tests.
 use Prim.Native.Nat.{ℕ}
 use mathlib.Core.Path.{_≡_, refl, sym, ap, _∙_}
 use mathlib.Core.List.{[], _∷_}
@@ -10,12 +11,14 @@ use lib.Signed.{ltZ}
 use borrow.Author.Tests.{ltb-true}
 use types.Run.{OneOf}
 use denote.Enum.Declared.{tagOf}
-use Rattle.words.specs.Tests.{withinOf}
+use Rattle.words.specs.Tests.{pick, withinOf}
 use Rattle.words.specs.declared.Refusal.{Refusal}
+use Rattle.fields.specs.Field.{refuse}
 use Rattle.fields.proofs.Field.{the-type}
 use Rattle.fields.specs.declared.Field.{Field}
 use Rattle.fields.specs.declared.Field.the-variants.{Value, Blank, Refused}
-use Rattle.verdicts.specs.Tests.{test, firstFault, wholeIn, wholeOf, numberOf, numberTests, countTests, readableTest, unreadNumber, unreadPlace}
+use Rattle.verdicts.specs.Tests.{test, firstFault, wholeIn, wholeOf, numberOf, numberTests, countTests, readableTest, faultOf, inRange, neededOf}
+use Rattle.verdicts.specs.Tests.{countedOf}
 use Rattle.verdicts.specs.declared.Verdict.the-variants.{Fine, Fault}
 
 -- ---- the sign of a number; z is what the machine reads back of v
@@ -52,59 +55,99 @@ module _ (z v : ℤ) (e : z ≡ v) where
   pub natural-of : ltZ z (pos 0) ≡ false → natAbs z ≡ wholeOf v
   natural-of h = ap natAbs e ∙ natural-of′ v (read-back h)
 
--- ---- range alone
+-- ---- a field that is no value says no number
 
-pub ranged-cases : (b : Bool) (at : ℕ) → (b ≡ true → Fine ≡ firstFault (test b 7 at ∷ [])) × (b ≡ false → Fault 7 at ≡ firstFault (test b 7 at ∷ []))
+pub no-number : (f : Field) → OneOf (1 ∷ 2 ∷ []) (tagOf the-type f) → 0 ≡ numberOf f
+no-number (Value v e) k = absurd (⊎-elim (λ e. omega arith) (λ e. omega arith) k)
+no-number Blank k = refl
+no-number (Refused x) k = refl
+
+-- ---- the verdict on a field
+
+pub refused-fault : (f : Field) (x : Refusal) → f ≡ Refused x → Fault (x .number) (x .place) ≡ faultOf f
+refused-fault f x q = rw q
+
+pub other-fault : (f : Field) → OneOf (0 ∷ 1 ∷ []) (tagOf the-type f) → Fine ≡ faultOf f
+other-fault (Value v e) k = refl
+other-fault Blank k = refl
+other-fault (Refused x) k = absurd (⊎-elim (λ e. omega arith) (λ e. omega arith) k)
+
+-- ---- a field handed on has the first fault of its tests, and where it is a value, its number
+
+-- whether the range holds
+range-fault : (b : Bool) (v e : ℤ) (at : ℕ) → faultOf (pick b (Value v e) (refuse 7 at)) ≡ firstFault (test b 7 at ∷ [])
 unfolding firstFault
-ranged-cases b at = (λ e. rw e, λ e. rw e)
+range-fault true v e at = refl
+range-fault false v e at = refl
 
--- ---- the cases of a field; where it is a value, g is what its range check said, of the number as it was read back
+range-value : (b : Bool) (v e w x : ℤ) (at : ℕ) → pick b (Value v e) (refuse 7 at) ≡ Value w x → v ≡ w
+range-value true v e w x at q = cc
+range-value false v e w x at q = absurd (let z : _≡_ {A = ℕ} 0 1 = cc in omega arith)
 
--- no value: blank or refused
-module _ (at : ℕ) where
-  pub no-number : (f : Field) → OneOf (1 ∷ 2 ∷ []) (tagOf the-type f) → 0 ≡ numberOf f
-  no-number (Value v e) k = absurd (⊎-elim (λ e. omega arith) (λ e. omega arith) k)
-  no-number Blank k = refl
-  no-number (Refused x) k = refl
+-- a field that is no value and no blank has a fault
+range-none : (b : Bool) (v e : ℤ) (at : ℕ) → OneOf (1 ∷ 2 ∷ []) (tagOf the-type (pick b (Value v e) (refuse 7 at))) → faultOf
+    (pick b (Value v e) (refuse 7 at)) ≡ Fault 7 at
+range-none true v e at k = absurd (⊎-elim (λ e. omega arith) (λ e. omega arith) k)
+range-none false v e at k = refl
 
-  pub no-value : (f : Field) (lo hi : ℕ) → OneOf (1 ∷ 2 ∷ []) (tagOf the-type f) → Fault (unreadNumber f) (unreadPlace at f) ≡ firstFault (numberTests f at lo hi)
+module _ (at lo hi : ℕ) where
+  pub needed-fault : (f : Field) → faultOf (neededOf f at lo hi) ≡ firstFault (numberTests f at lo hi)
   unfolding firstFault
-  no-value (Value v e) lo hi k = absurd (⊎-elim (λ e. omega arith) (λ e. omega arith) k)
-  no-value Blank lo hi k = refl
-  no-value (Refused x) lo hi k = refl
+  needed-fault (Value v e) = range-fault (wholeIn lo v hi) v e at
+  needed-fault Blank = refl
+  needed-fault (Refused x) = refl
 
-  -- no refusal: a value or blank
-  pub not-refused : (f : Field) → OneOf (0 ∷ 1 ∷ []) (tagOf the-type f) → Fault 6 at ≡ Fault (unreadNumber f) (unreadPlace at f)
-  not-refused (Value v e) k = refl
-  not-refused Blank k = refl
-  not-refused (Refused x) k = absurd (⊎-elim (λ e. omega arith) (λ e. omega arith) k)
-
-  pub can-read : (f : Field) → OneOf (0 ∷ 1 ∷ []) (tagOf the-type f) → Fine ≡ firstFault (readableTest f at ∷ [])
+  pub counted-fault : (f : Field) → faultOf (countedOf f at lo hi) ≡ firstFault (countTests f at lo hi)
   unfolding firstFault
-  can-read (Value v e) k = refl
-  can-read Blank k = refl
-  can-read (Refused x) k = absurd (⊎-elim (λ e. omega arith) (λ e. omega arith) k)
+  counted-fault (Value v e) = range-fault (wholeIn lo v hi) v e at
+  counted-fault Blank = range-fault (withinOf lo 0 hi) (pos 0) (pos 0) at
+  counted-fault (Refused x) = refl
 
-  pub value-needed : (f : Field) (v e : ℤ) (lo hi : ℕ) → f ≡ Value v e → firstFault (test (wholeIn lo v hi) 7 at ∷ []) ≡ firstFault (numberTests f at lo hi)
-  unfolding firstFault
-  value-needed f v e lo hi q = rw q
+  pub needed-number : (f : Field) (w x : ℤ) → neededOf f at lo hi ≡ Value w x → wholeOf w ≡ numberOf f
+  needed-number (Value v e) w x q = ap wholeOf (sym (range-value (wholeIn lo v hi) v e w x at q))
+  needed-number Blank w x q = absurd (let z : _≡_ {A = ℕ} 0 1 = cc in omega arith)
+  needed-number (Refused y) w x q = absurd (let z : _≡_ {A = ℕ} 0 1 = cc in omega arith)
 
-  pub value-counted : (f : Field) (v e : ℤ) (lo hi : ℕ) → f ≡ Value v e → firstFault (test (wholeIn lo v hi) 7 at ∷ []) ≡ firstFault (countTests f at lo hi)
-  unfolding firstFault
-  value-counted f v e lo hi q = rw q
+  pub counted-number : (f : Field) (w x : ℤ) → countedOf f at lo hi ≡ Value w x → wholeOf w ≡ numberOf f
+  counted-number (Value v e) w x q = ap wholeOf (sym (range-value (wholeIn lo v hi) v e w x at q))
+  counted-number Blank w x q = ap wholeOf (sym (range-value (withinOf lo 0 hi) (pos 0) (pos 0) w x at q))
+  counted-number (Refused y) w x q = absurd (let z : _≡_ {A = ℕ} 0 1 = cc in omega arith)
 
-  pub blank-counted : (f : Field) (lo hi : ℕ) → f ≡ Blank → firstFault (test (withinOf lo 0 hi) 7 at ∷ []) ≡ firstFault (countTests f at lo hi)
-  unfolding firstFault
-  blank-counted f lo hi q = rw q
+  -- a field that is handed on and is no value has a fault
+  pub needed-none : (f : Field) → OneOf (1 ∷ 2 ∷ []) (tagOf the-type (neededOf f at lo hi)) → (n : ℕ) × ((p : ℕ) × (faultOf (neededOf f at lo hi) ≡ Fault n p))
+  needed-none (Value v e) k = (7, (at, range-none (wholeIn lo v hi) v e at k))
+  needed-none Blank k = (6, (at, refl))
+  needed-none (Refused x) k = (x .number, (x .place, refl))
 
-  -- a refused field's refusal
-  pub refused-unread : (f : Field) (x : Refusal) → f ≡ Refused x → Fault (x .number) (x .place) ≡ Fault (unreadNumber f) (unreadPlace at f)
-  refused-unread f x q = rw q
+  pub counted-none : (f : Field) → OneOf (1 ∷ 2 ∷ []) (tagOf the-type (countedOf f at lo hi)) → (n : ℕ) ×
+      ((p : ℕ) × (faultOf (countedOf f at lo hi) ≡ Fault n p))
+  counted-none (Value v e) k = (7, (at, range-none (wholeIn lo v hi) v e at k))
+  counted-none Blank k = (7, (at, range-none (withinOf lo 0 hi) (pos 0) (pos 0) at k))
+  counted-none (Refused x) k = (x .number, (x .place, refl))
 
-  pub refused-readable : (f : Field) (x : Refusal) → f ≡ Refused x → Fault (x .number) (x .place) ≡ firstFault (readableTest f at ∷ [])
-  unfolding firstFault
-  refused-readable f x q = rw q
+-- a listed field: a value or blank
+pub readable-fault : (at : ℕ) (f : Field) → faultOf f ≡ firstFault (readableTest f at ∷ [])
+unfolding firstFault
+readable-fault at (Value v e) = refl
+readable-fault at Blank = refl
+readable-fault at (Refused x) = refl
 
-  pub refused-counted : (f : Field) (x : Refusal) (lo hi : ℕ) → f ≡ Refused x → Fault (x .number) (x .place) ≡ firstFault (countTests f at lo hi)
-  unfolding firstFault
-  refused-counted f x lo hi q = rw q
+-- a field handed on is the definition's, in each case
+module _ (at lo hi : ℕ) (f : Field) where
+  pub needed-value : (v e : ℤ) → f ≡ Value v e → inRange v e at lo hi ≡ neededOf f at lo hi
+  needed-value v e q = rw q
+
+  pub needed-refused : (x : Refusal) → f ≡ Refused x → f ≡ neededOf f at lo hi
+  needed-refused x q = rw q
+
+  pub counted-value : (v e : ℤ) → f ≡ Value v e → inRange v e at lo hi ≡ countedOf f at lo hi
+  counted-value v e q = rw q
+
+  pub counted-refused : (x : Refusal) → f ≡ Refused x → f ≡ countedOf f at lo hi
+  counted-refused x q = rw q
+
+  pub needed-blank : f ≡ Blank → refuse 6 at ≡ neededOf f at lo hi
+  needed-blank q = rw q
+
+  pub counted-blank : f ≡ Blank → inRange (pos 0) (pos 0) at lo hi ≡ countedOf f at lo hi
+  counted-blank q = rw q

@@ -1,4 +1,5 @@
--- That no test of a list fails is that each of them holds, the first first: for lists one after the other, for the rows of a table, and for a number field, whose number then lies in its range.
+-- That no test of a list fails is that each of them holds, the first first: for lists one after the other, for the rows of a table, and for a number field,
+-- whose number then lies in its range.
 use Prim.Native.Nat.{ℕ, zero, suc, _+_, _-_, _≤_, _<_}
 use mathlib.Core.Path.{_≡_, refl, ap, _∙_, subst}
 use mathlib.Core.List.{List, [], _∷_, _++_}
@@ -8,10 +9,13 @@ use lib.IntN.{pos, negsuc}
 use lib.ListN.{length, getD, take}
 use lib.Seq.{slice, length-slice, getD-drop, getD-take}
 use Rattle.words.specs.Tests.{pick, bothOf}
+use Rattle.words.specs.Words.{placeOf}
+use Rattle.decimal.specs.declared.Form.the-variants.{I4}
 use Rattle.words.proofs.Laws.{within-true, both-l, both-r, both-true}
 use Rattle.fields.specs.declared.Field.{Field}
 use Rattle.fields.specs.declared.Field.the-variants.{Value, Blank, Refused}
 use Rattle.verdicts.specs.Tests.{Test, firstFault, allHold, each, numberTests, countTests, numberOf}
+use Rattle.verdicts.specs.Numbers.{Number, number, at, numberAt, rowTests, numbersTests}
 use Rattle.verdicts.specs.declared.Verdict.{Verdict}
 use Rattle.verdicts.specs.declared.Verdict.the-variants.{Fine, Fault}
 
@@ -95,3 +99,12 @@ count-holds (Value (pos n) e) at lo hi h = within-true lo n hi (h .1 .0)
 count-holds (Value (negsuc n) e) at lo hi h = absurd (false≢true (h .1 .0))
 count-holds Blank at lo hi h = within-true lo 0 hi (h .1 .0)
 count-holds (Refused x) at lo hi h = absurd (false≢true (h .0))
+
+-- the number of row i of a table whose rows have no fault lies in its range
+pub row-holds : (r : List ℕ) (xs : List Number) → Holds (numbersTests r xs) → (i : ℕ) → i < length xs
+    → (getD xs i (number 0 I4 0 0) .least ≤ numberAt r (getD xs i (number 0 I4 0 0) .byte) (getD xs i (number 0 I4 0 0) .form))
+    × (numberAt r (getD xs i (number 0 I4 0 0) .byte) (getD xs i (number 0 I4 0 0) .form) ≤ getD xs i (number 0 I4 0 0) .most)
+unfolding numbersTests
+row-holds r xs h i l =
+    let x = getD xs i (number 0 I4 0 0) in
+    number-holds (at r (x .byte) (x .form)) (placeOf (x .byte)) (x .least) (x .most) (each-holds (rowTests r) (number 0 I4 0 0) xs h i l)

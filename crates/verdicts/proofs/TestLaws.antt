@@ -1,4 +1,5 @@
--- Lists of tests, one after the other: the first fault of two lists is the first list's, or the second's where the first has none; so of a table's rows, one row after the other.
+-- Lists of tests, one after the other: the first fault of two lists is the first list's, or the second's where the first has none; so of a table's rows,
+-- one row after the other.
 use Prim.Native.Nat.{ℕ, _+_, _≤_, _<_}
 use mathlib.Core.Path.{_≡_, refl, sym, ap, _∙_}
 use mathlib.Core.List.{List, [], _∷_, _++_}
@@ -30,6 +31,10 @@ module _ (ts us : List Test) {v : Verdict} (e : v ≡ firstFault ts) where
 
   pub passed : v ≡ Fine → firstFault (ts ++ us) ≡ firstFault us
   passed q = fault-append ts us ∙ ap (λ (x : Verdict). andThen x (firstFault us)) (sym e ∙ q)
+
+-- a fault is not fine
+pub not-fine : {v : Verdict} {n at : ℕ} → v ≡ Fault n at → v ≡ Fine → ⊥
+not-fine q e = let z : _≡_ {A = ℕ} 0 1 = cc in omega arith
 
 -- the rows of a table from i on, to before another
 module _ {A : Type 0} (g : A → List Test) (xs : List A) (d : A) (i to : ℕ) where

@@ -6,6 +6,7 @@ use lib.Dec.{eqb}
 use lib.IntN.{ℤ, pos, negsuc}
 use Rattle.words.specs.Tests.{pick, bothOf, withinOf}
 use Rattle.words.specs.Words.{byteAt, placeOf}
+use Rattle.fields.specs.Field.{refuse}
 use Rattle.fields.specs.declared.Field.{Field}
 use Rattle.fields.specs.declared.Field.the-variants.{Value, Blank, Refused}
 use Rattle.verdicts.specs.declared.Verdict.{Verdict}
@@ -111,3 +112,27 @@ countTests f at lo hi = test (readable? f) (unreadNumber f) (unreadPlace at f) �
 -- a listed field: a value or blank
 abbrev pub readableTest : Field → ℕ → Test
 readableTest f at = test (readable? f) (unreadNumber f) (unreadPlace at f)
+
+-- ---- the same, one field after the other: what the code hands on of a field, and its fault
+
+-- the verdict on a field: its refusal is the fault
+abbrev pub faultOf : Field → Verdict
+faultOf (Value v e) = Fine
+faultOf Blank = Fine
+faultOf (Refused x) = Fault (x .number) (x .place)
+
+-- a value in a range, or 7
+abbrev pub inRange : ℤ → ℤ → ℕ → ℕ → ℕ → Field
+inRange v e at lo hi = pick (wholeIn lo v hi) (Value v e) (refuse 7 at)
+
+-- a field that must be a number in a range: its value; else its own refusal, 6 where it is blank, 7 outside the range
+abbrev pub neededOf : Field → ℕ → ℕ → ℕ → Field
+neededOf (Value v e) at lo hi = inRange v e at lo hi
+neededOf Blank at lo hi = refuse 6 at
+neededOf (Refused x) at lo hi = Refused x
+
+-- a count, whose blank field says 0
+abbrev pub countedOf : Field → ℕ → ℕ → ℕ → Field
+countedOf (Value v e) at lo hi = inRange v e at lo hi
+countedOf Blank at lo hi = inRange (pos 0) (pos 0) at lo hi
+countedOf (Refused x) at lo hi = Refused x

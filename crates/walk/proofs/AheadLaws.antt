@@ -9,10 +9,11 @@ use lib.ListN.{length, drop}
 use lib.Seq.{drop-drop}
 use borrow.Author.Tests.{le-leb}
 use Rattle.words.proofs.Laws.{both-make}
-use Rattle.plan.specs.Plan.{image, planGood, totalOf}
+use Rattle.plan.specs.Plan.{image, planGood, totalOf, lineCodes}
 use Rattle.plan.specs.declared.Plan.{Plan}
 use Rattle.plan.specs.declared.Spot.{Spot}
-use Rattle.plan.proofs.CodeLaws.{line-spot, image-total}
+use Rattle.plan.specs.declared.Due.{Due}
+use Rattle.plan.proofs.CodeLaws.{line-spot, line-due, image-total}
 use Rattle.plan.proofs.GoodLaws.{image-agrees, image-within, image-bounds}
 use Rattle.image.specs.Image.{imageRecord}
 use Rattle.bodies.specs.Bodies.{bodyOf, bodyTests}
@@ -22,8 +23,8 @@ use Rattle.ahead.specs.Lines.{linesFine}
 use Rattle.turns.specs.declared.Turn.the-variants.{Pass}
 use Rattle.turns.proofs.TurnLaws.{judge-body}
 use Rattle.ahead.proofs.LineLaws.{LineFine, LinesFine, head-fine, tail-fine, lines-few, lines-room, lines-are, rest, rest-is}
-use Rattle.walk.specs.Rule.{goodState}
-use Rattle.walk.specs.Turn.{turnOf, nextOf, more, walkOf}
+use Rattle.walk.specs.State.{goodState}
+use Rattle.walk.specs.Walk.{turnOf, nextOf, more, walkOf}
 use Rattle.walk.specs.Ahead.{skipped, Ahead}
 use Rattle.walk.specs.declared.State.{State}
 use Rattle.walk.proofs.GoodLaws.{good-some, good-later}
@@ -45,8 +46,8 @@ module _ (p : Plan) (good : planGood image p ≡ true) where
   unfolding bodyOf bodyTests imageRecord
   line-turn k b c h f =
       let a = image-agrees p good in
-      let s : Spot = record { run = 1; length = p .l; start = 720 + k * p .l } in
-      ap (λ (x : Spot). judgeOf image p (suc k) x b c) (line-spot p k h)
+      let s : Due = record { ordinal = suc k + 1; run = 1; codes = lineCodes 0; length = p .l; start = 720 + k * p .l } in
+      ap (λ (x : Due). judgeOf image p (suc k) x b c) (line-due p k h)
       ∙ judge-body image p (suc k) s b c (subst (λ (i : ℕ). suc k < i) (sym (image-total p)) (omega arith)) (omega (arith, a .1, f .whole)) (f .head) (f .whole)
       ∙ ap (λ (v : Verdict). onFine v (suc k + 1) (s .start) Pass) (f .body)
 
@@ -70,7 +71,8 @@ module _ (p : Plan) (good : planGood image p ≡ true) where
       let y : suc (suc k) + c ≡ suc k + suc c = omega arith in
       let d : p .l + c * p .l ≡ suc c * p .l = omega (arith, suc-mul c (p .l)) in
       ap (λ (i : ℕ). walkOf i (behind p (suc k)) b closed) n
-      ∙ walk-pass (behind p (suc k)) b closed (c + m) (behind-good (suc k) (omega arith) (omega arith)) (line-turn k b closed (omega arith) (head-fine (p .w) (p .l) (suc k) c b f))
+      ∙ walk-pass (behind p (suc k)) b closed (c + m) (behind-good (suc k) (omega arith) (omega arith))
+      (line-turn k b closed (omega arith) (head-fine (p .w) (p .l) (suc k) c b f))
       ∙ ap (λ (x : Spot). more 1 (walkOf (c + m) (nextOf (behind p (suc k)) b) (drop (x .length) b) closed)) (line-spot p k (omega arith))
       ∙ ap (λ (x : State). more 1 (walkOf (c + m) x (drop (p .l) b) closed)) (line-next k b)
       ∙ ap (more 1) (ahead-walk c (suc k) m (drop (p .l) b) closed (omega arith) (tail-fine (p .w) (p .l) (suc k) c b f))
@@ -136,7 +138,8 @@ ahead-lines st b most few c g i z less t e = subst (Ahead st b most) (sym e) (go
     go zero h = absurd (z h)
     go (suc k) h =
         let n : found ≤ few = lines-few w l (st .passed) few b in
-        ahead-behind st b most found k i h (subst (λ (x : ℕ). planGood x (st .plan) ≡ true) i (good-later st g z .0)) (omega arith) (omega arith) (lines-room w l (st .passed) few b)
+        ahead-behind st b most found k i h (subst (λ (x : ℕ). planGood x (st .plan) ≡ true) i (good-later st g z .0)) (omega arith) (omega arith)
+        (lines-room w l (st .passed) few b)
         (subst (λ (x : ℕ). LinesFine w l x found b) h (lines-are w l (st .passed) few b))
 
 -- what the code needs of an image's state

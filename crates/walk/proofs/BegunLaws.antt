@@ -5,8 +5,8 @@ use mathlib.Core.List.{List}
 use mathlib.Core.Bool.{Bool, true}
 use Rattle.words.specs.Tests.{withinOf}
 use Rattle.words.proofs.Laws.{pick-true}
-use Rattle.walk.specs.Rule.{fresh}
-use Rattle.walk.specs.Turn.{walkOf, beginOf}
+use Rattle.walk.specs.State.{fresh}
+use Rattle.walk.specs.Walk.{walkOf, beginOf}
 use Rattle.walk.specs.declared.Begun.{Begun}
 use Rattle.walk.specs.declared.Walked.{Walked}
 

@@ -10,7 +10,7 @@ use Rattle.words.specs.Tests.{bothOf, withinOf}
 use Rattle.words.proofs.Laws.{both-l, both-r, both-make, true-within, cases}
 use Rattle.plan.specs.Plan.{allZero, zeroPlan?, planGood, totalOf}
 use Rattle.plan.proofs.Bounds.{small-good, small-zero}
-use Rattle.walk.specs.Rule.{fresh, goodState, Ready}
+use Rattle.walk.specs.State.{fresh, goodState, Ready}
 use Rattle.walk.specs.declared.State.{State}
 
 module _ (st : State) where
@@ -29,7 +29,8 @@ module _ (st : State) where
 
   pub good-later : goodState st ≡ true → (st .passed ≡ 0 → ⊥) → (planGood (st .kind) (st .plan) ≡ true) × (st .passed ≤ totalOf (st .kind) (st .plan))
   good-later g h =
-      let q = both-r (withinOf 1 (st .kind) 4) (bothOf (planGood (st .kind) (st .plan)) (leb (st .passed) (totalOf (st .kind) (st .plan)))) (sym (good-some h) ∙ g) in (
+      let q = both-r (withinOf 1 (st .kind) 4) (bothOf (planGood (st .kind) (st .plan)) (leb (st .passed) (totalOf (st .kind) (st .plan))))
+      (sym (good-some h) ∙ g) in (
         both-l (planGood (st .kind) (st .plan)) (leb (st .passed) (totalOf (st .kind) (st .plan))) q,
         leb-true _ _ (both-r (planGood (st .kind) (st .plan)) (leb (st .passed) (totalOf (st .kind) (st .plan))) q),
       )
@@ -39,7 +40,11 @@ module _ (st : State) where
       ⊎-elim
       (λ z.
       let h = eqb-true (st .passed) 0 z in
-      record { small = small-zero (st .kind) (st .plan) (both-r (withinOf 1 (st .kind) 4) (zeroPlan? (st .plan)) (sym (good-zero h) ∙ g)); within = omega arith })
+      record {
+        small = small-zero (st .kind) (st .plan) (both-r (withinOf 1 (st .kind) 4) (zeroPlan? (st .plan)) (sym (good-zero h)
+            ∙ g));
+        within = omega arith;
+      })
       (λ z.
       let q = good-later g (eqb-false (st .passed) 0 z) in
       record { small = small-good (st .kind) (st .plan) (q .0); within = q .1 })

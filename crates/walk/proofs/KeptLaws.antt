@@ -6,8 +6,8 @@ use mathlib.Core.Bool.{Bool, true}
 use mathlib.Core.Logic.{⊎-elim}
 use lib.ListN.{drop}
 use Rattle.words.proofs.Laws.{cases}
-use Rattle.walk.specs.Rule.{goodState, nextSpot}
-use Rattle.walk.specs.Turn.{turnOf, nextOf, walkOf}
+use Rattle.walk.specs.State.{goodState, nextDue}
+use Rattle.walk.specs.Walk.{turnOf, nextOf, walkOf}
 use Rattle.walk.specs.declared.State.{State}
 use Rattle.turns.specs.declared.Turn.{Turn}
 use Rattle.turns.specs.declared.Turn.the-variants.{Pass, Halt}
@@ -23,10 +23,10 @@ module _ (P : State → Type 0) (c : Bool)
         ⊎-elim (λ g. subst (λ (w : Walked). P (w .state)) (sym (walk-pause st b c g)) p)
         (λ g. subst (λ (w : Walked). P (w .state)) (sym (walk-bad st b c 0 g)) p) (cases (goodState st))
     kept (suc n) st b p =
-        ⊎-elim (λ g. go g (kept n (nextOf st b) (drop (nextSpot st .length) b)) (turnOf st b c) refl)
+        ⊎-elim (λ g. go g (kept n (nextOf st b) (drop (nextDue st .length) b)) (turnOf st b c) refl)
         (λ g. subst (λ (w : Walked). P (w .state)) (sym (walk-bad st b c (suc n) g)) p) (cases (goodState st))
       where
-        go : goodState st ≡ true → (P (nextOf st b) → P (walkOf n (nextOf st b) (drop (nextSpot st .length) b) c .state)) → (t : Turn) → turnOf st b c ≡ t
+        go : goodState st ≡ true → (P (nextOf st b) → P (walkOf n (nextOf st b) (drop (nextDue st .length) b) c .state)) → (t : Turn) → turnOf st b c ≡ t
             → P (walkOf (suc n) st b c .state)
         go g ih Pass t = subst (λ (w : Walked). P (w .state)) (sym (walk-pass st b c n g t)) (ih (next st b g t p))
         go g ih (Halt x) t = subst (λ (w : Walked). P (w .state)) (sym (walk-halt st b c n x g t)) p

@@ -12,8 +12,8 @@ use Rattle.turns.specs.declared.Stop.the-variants.{Pause}
 use Rattle.turns.specs.declared.Turn.the-variants.{Pass, Halt}
 use Rattle.turns.proofs.TurnLaws.{pass-long}
 use Rattle.ahead.proofs.LineLaws.{rest, rest-is}
-use Rattle.walk.specs.Rule.{goodState, nextSpot}
-use Rattle.walk.specs.Turn.{turnOf, nextOf, stopped, more, badStop, walkOf}
+use Rattle.walk.specs.State.{goodState, nextDue}
+use Rattle.walk.specs.Walk.{turnOf, nextOf, stopped, more, badStop, walkOf}
 use Rattle.walk.specs.declared.State.{State}
 use Rattle.walk.specs.declared.Walked.{Walked}
 
@@ -31,7 +31,7 @@ module _ (st : State) (b : List ℕ) (c : Bool) where
   unfolding walkOf
   walk-halt f x h t = simp (h, t)
 
-  pub walk-pass : (f : ℕ) → goodState st ≡ true → turnOf st b c ≡ Pass → walkOf (suc f) st b c ≡ more 1 (walkOf f (nextOf st b) (drop (nextSpot st .length) b) c)
+  pub walk-pass : (f : ℕ) → goodState st ≡ true → turnOf st b c ≡ Pass → walkOf (suc f) st b c ≡ more 1 (walkOf f (nextOf st b) (drop (nextDue st .length) b) c)
   unfolding walkOf
   walk-pass f h t = simp (h, t)
 
@@ -56,17 +56,18 @@ module _ (m n at : ℕ) (st : State) (b : List ℕ) (c : Bool) where
       ∙ ap (more n) (walk-halt st (drop at b) c (m - (n + 1)) x g (rw (rest-is b at) at t))
       ∙ more-stopped n st x
 
-  pub turn-pass : (long : ℕ) (st′ : State) → n < m → goodState st ≡ true → turnOf st (rest b at) c ≡ Pass → long ≡ nextSpot st .length → st′ ≡ nextOf st (rest b at)
+  pub turn-pass : (long : ℕ) (st′ : State) → n < m → goodState st ≡ true → turnOf st (rest b at) c ≡ Pass → long ≡ nextDue st .length → st′ ≡ nextOf st
+      (rest b at)
       → more n (walkOf (m - n) st (drop at b) c) ≡ more (n + 1) (walkOf (m - (n + 1)) st′ (drop (at + long) b) c)
   turn-pass long st′ h g t e q =
       ap (λ (f : ℕ). more n (walkOf f st (drop at b) c)) (less-one m n h)
       ∙ ap (more n) (walk-pass st (drop at b) c (m - (n + 1)) g (rw (rest-is b at) at t))
-      ∙ more-more n 1 (walkOf (m - (n + 1)) (nextOf st (drop at b)) (drop (nextSpot st .length) (drop at b)) c)
+      ∙ more-more n 1 (walkOf (m - (n + 1)) (nextOf st (drop at b)) (drop (nextDue st .length) (drop at b)) c)
       ∙ rw (q, rest-is b at, e, ← drop-drop)
 
-  pub pass-room : (long : ℕ) → at ≤ length b → turnOf st (rest b at) c ≡ Pass → long ≡ nextSpot st .length → at + long ≤ length b
+  pub pass-room : (long : ℕ) → at ≤ length b → turnOf st (rest b at) c ≡ Pass → long ≡ nextDue st .length → at + long ≤ length b
   pass-room long h t e =
-      omega (arith, pass-long (st .kind) (st .plan) (st .passed) (nextSpot st) (drop at b) c (rw (rest-is b at) at t), length-drop at b)
+      omega (arith, pass-long (st .kind) (st .plan) (st .passed) (nextDue st) (drop at b) c (rw (rest-is b at) at t), length-drop at b)
 
   pub walk-end : m ≤ n → goodState st ≡ true → more n (walkOf (m - n) st (drop at b) c) ≡ record { state = st; count = n; stop = Pause }
   walk-end h g =

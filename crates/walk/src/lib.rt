@@ -2,17 +2,16 @@
 // and handed back, turns in the page's order, a record budget for each call. Whatever it is handed,
 // it ends with an answer; a refused or waiting record leaves the state before it.
 use plan::Plan;
-use plan::Spot;
 use turns::Stop;
 use turns::Turn;
 use words::Refusal;
 ghost use mathlib.Core.Path.{_≡_};
-ghost use Prim.Native.Nat.{_≤_};
+ghost use Prim.Native.Nat.{_+_, _≤_};
 ghost use mathlib.Core.Bool.{true};
-ghost use lib.ListN.{length};
-ghost use Rattle.walk.specs.Rule.{fresh, goodState, nextSpot, startOf};
+ghost use Rattle.plan.specs.Plan.{recordsMost};
+ghost use Rattle.walk.specs.State.{fresh, goodState, startOf};
 ghost use Rattle.walk.specs.Ahead.{Ahead};
-ghost use Rattle.walk.specs.Turn.{nextOf, badStop, walkOf, beginOf};
+ghost use Rattle.walk.specs.Walk.{nextWith, badStop, walkOf, beginOf};
 
 // The walk's state: file kind, records passed, and the plan taken from the file's first record.
 pub struct State {
@@ -43,11 +42,7 @@ pub struct Begun {
 fn bad_stop() -> Stop
     ensures { λ r. ⌜ r ≡ badStop ⌝ }
 {
-    Stop::Refused(Refusal {
-        number: 11,
-        record: 0,
-        place: 0,
-    })
+    Stop::Refused(words::bare(11))
 }
 
 impl State {
@@ -77,11 +72,7 @@ impl State {
         }
         Begun {
             state: st,
-            answer: Beginning::Unknown(Refusal {
-                number: 1,
-                record: 0,
-                place: 0,
-            }),
+            answer: Beginning::Unknown(words::bare(1)),
         }
     }
 
@@ -94,30 +85,22 @@ impl State {
         let p = self.plan;
         let known = words::within(1, kind, 4);
         if k == 0 {
-            return words::both(known, ranges::is_zero(p));
+            return words::both(known, allowed::is_zero(p));
         }
-        if ranges::good(kind, p) {
+        if allowed::good(kind, p) {
             return words::both(known, k <= plan::total(kind, p));
         }
         false
     }
 
-    // The state behind the next record, which has passed.
-    fn next(self, s: Spot, b: &[u8]) -> State
-        requires { ⌜ s ≡ nextSpot self ⌝ }
-        requires { ⌜ (self .passed ≤ 17000001) × (s .length ≤ length (now b)) ⌝ }
-        ensures { λ r. ⌜ r ≡ nextOf self (now (b .entry)) ⌝ }
+    // The state behind the next record, which has passed and left that plan.
+    fn next(self, p: Plan) -> State
+        requires { ⌜ self .passed ≤ recordsMost + 1 ⌝ }
+        ensures { λ r. ⌜ r ≡ nextWith self p ⌝ }
     {
-        let kind = self.kind;
-        let k = self.passed;
-        let mut p = self.plan;
-        if k == 0 {
-            let due = s.length as usize;
-            p = bodies::plan_of(kind, &b[..due]);
-        }
         State {
-            kind,
-            passed: k + 1,
+            kind: self.kind,
+            passed: self.passed + 1,
             plan: p,
         }
     }
@@ -150,7 +133,7 @@ impl State {
     {
         if self.good() {
             let p = self.plan;
-            return plan::spot_of(self.kind, p, self.passed).start;
+            return plan::due_of(self.kind, p, self.passed).start;
         }
         0
     }
@@ -173,8 +156,9 @@ impl State {
         while n < budget {
             let rest = &bytes[at..];
             let p = st.plan;
-            let s = plan::spot_of(st.kind, p, st.passed);
-            let turn = turns::judge(st.kind, p, st.passed, s, rest, closed);
+            let due = plan::due_of(st.kind, p, st.passed);
+            let judged = turns::judge(st.kind, p, st.passed, due, rest, closed);
+            let turn = judged.turn;
             if let Turn::Halt(stop) = turn {
                 return Walked {
                     state: st,
@@ -182,8 +166,9 @@ impl State {
                     stop,
                 };
             }
-            at += s.length as usize;
-            st = st.next(s, rest);
+            at += due.length as usize;
+            let behind = judged.plan;
+            st = st.next(behind);
             n += 1;
             let long = st.plan.l;
             let c = st.ahead(&bytes[at..], budget - n);

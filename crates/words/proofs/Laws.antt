@@ -1,4 +1,5 @@
--- What the numbers of several bytes are at the end of the bytes, by computing each byte that is not there as 0; that an equation leaves one answer; and the tests that all crates share, as facts.
+-- What the numbers of several bytes are at the end of the bytes, by computing each byte that is not there as 0; that an equation leaves one answer; and the
+-- tests that all crates share, as facts.
 use Prim.Native.Nat.{ℕ, _+_, _*_, _≤_}
 use mathlib.Core.Path.{_≡_, refl, sym, ap, ap₂, _∙_, subst}
 use mathlib.Core.List.{List}

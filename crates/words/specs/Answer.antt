@@ -1,5 +1,6 @@
 -- The words in which document 01 gives an answer, and the numbers that stand with each. For every answer that is an enum a definition
 -- beside it says which of these it is; the promises are stated in these words. Assumes nothing.
+use Prim.Native.Nat.{ℕ}
 use mathlib.Core.List.{List, [], _∷_}
 use lib.IntN.{ℤ, pos}
 use Rattle.words.specs.declared.Refusal.{Refusal}
@@ -16,6 +17,14 @@ pub record Answer : Type 0 where
 -- a refusal's numbers: document 01's number, the record's ordinal, the place
 abbrev pub refusedAs : Refusal → Answer
 refusedAs r = record { word = refused; numbers = pos (r .number) ∷ pos (r .«record») ∷ pos (r .place) ∷ [] }
+
+-- a refusal that names no record: ordinal 0
+abbrev pub refusalAt : ℕ → ℕ → Refusal
+refusalAt n at = record { number = n; «record» = 0; place = at }
+
+-- a refusal that names neither a record nor a place in it
+abbrev pub bareRefusal : ℕ → Refusal
+bareRefusal n = refusalAt n 0
 
 -- an answer that has no numbers
 abbrev pub bare : Word → Answer

@@ -9,6 +9,7 @@ ghost use lib.Dec.{eqb};
 ghost use lib.ListN.{length};
 ghost use Rattle.words.specs.Words.{byteAt, twoAt, fourAt, placeOf};
 ghost use Rattle.words.specs.Tests.{bothOf, withinOf};
+ghost use Rattle.words.specs.Answer.{refusalAt, bareRefusal};
 
 // Why something was refused: document 01's number, the record's ordinal (0 where none is named) and
 // the place, from 0.
@@ -16,6 +17,24 @@ pub struct Refusal {
     pub number: u64,
     pub record: u64,
     pub place: u64,
+}
+
+// A refusal that names no record: ordinal 0.
+pub fn at_place(number: u64, place: u64) -> Refusal
+    ensures { λ r. ⌜ r ≡ refusalAt number place ⌝ }
+{
+    Refusal {
+        number,
+        record: 0,
+        place,
+    }
+}
+
+// A refusal that names neither a record nor a place in it.
+pub fn bare(number: u64) -> Refusal
+    ensures { λ r. ⌜ r ≡ bareRefusal number ⌝ }
+{
+    at_place(number, 0)
 }
 
 // The byte at a place, or 0 past the end.

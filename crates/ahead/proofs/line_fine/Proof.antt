@@ -28,7 +28,12 @@ header-there-requires : tie.Need-header-there-requires
 header-there-requires c κs = search needs
 
 line-there-requires : tie.Need-line-there-requires
-line-there-requires c κs = omega (arith, length-take-le (c .before .before .before .before .before .args .l) (c .before .before .before .before .before .args .b .now) (omega (arith, c .before .before .before .if1 .left)), c .before .before .if2 .left)
+line-there-requires c κs = omega (
+  arith,
+  length-take-le (c .before .before .before .before .before .args .l) (c .before .before .before .before .before .args .b .now)
+      (omega (arith, c .before .before .before .if1 .left)),
+  c .before .before .if2 .left,
+)
 
 both-requires : tie.Need-both-requires
 both-requires c κs = search needs
@@ -37,9 +42,15 @@ returns-3 : tie.Need-returns-3
 returns-3 c =
     c .both .ensures
     ∙ ap₂ bothOf
-    (c .before .before .header-there .ensures ∙ ap (λ (y : Codes). allHold (headerTests (c .before .before .before .before .before .before .before .args .k + 1) y (c .before .before .before .before .before .before .before .args .l) (c .before .before .before .before .before .before .before .args .b .now))) (c .before .before .before .before .before .before .before .pre .0))
+    (c .before .before .header-there .ensures
+    ∙ ap (λ (y : Codes). allHold
+    (headerTests (c .before .before .before .before .before .before .before .args .k + 1) y
+    (c .before .before .before .before .before .before .before .args .l) (c .before .before .before .before .before .before .before .args .b .now)))
+    (c .before .before .before .before .before .before .before .pre .0))
     (c .before .line-there .ensures)
-    ∙ laws.tested (c .before .before .before .before .before .before .before .args .w) (c .before .before .before .before .before .before .before .args .l) (c .before .before .before .before .before .before .before .args .k) (c .before .before .before .before .before .before .before .args .b .now) (c .before .before .before .before .before .if1 .left) (c .before .before .before .before .if2 .left)
+    ∙ laws.tested (c .before .before .before .before .before .before .before .args .w) (c .before .before .before .before .before .before .before .args .l)
+    (c .before .before .before .before .before .before .before .args .k) (c .before .before .before .before .before .before .before .args .b .now)
+    (c .before .before .before .before .before .if1 .left) (c .before .before .before .before .if2 .left)
 
 pub line-fine-spec : {M : Type 1} → statement M
 line-fine-spec =

@@ -15,11 +15,16 @@ Inv-loop w l k most b codes c₀ at₀ c at = (c ≤ most) × (at ≤ length b) 
 abbrev μ-loop : tie.MeasureT-loop
 μ-loop w l k most b codes c₀ at₀ c at = most - c
 
-codes-of-requires : tie.Need-codes-of-requires Inv-loop μ-loop
-codes-of-requires c κs = search needs
+line-codes-requires : tie.Need-line-codes-requires Inv-loop μ-loop
+line-codes-requires c κs = search needs
 
 loop-holds : tie.Need-loop-holds Inv-loop μ-loop
-loop-holds c = (omega arith, omega arith, laws.count-none (c .before .before .args .w) (c .before .before .args .l) (c .before .before .args .k) (c .before .before .args .most) (c .before .before .args .b .now))
+loop-holds c = (
+  omega arith,
+  omega arith,
+  laws.count-none (c .before .before .args .w) (c .before .before .args .l) (c .before .before .args .k)
+      (c .before .before .args .most) (c .before .before .args .b .now),
+)
 
 add-line-fine : tie.Need-add-line-fine Inv-loop μ-loop
 add-line-fine c = search needs
@@ -34,13 +39,25 @@ part-line-fine-end : tie.Need-part-line-fine-end Inv-loop μ-loop
 part-line-fine-end c = search needs
 
 line-fine-requires : tie.Need-line-fine-requires Inv-loop μ-loop
-line-fine-requires c κs = (c .before .before .before .codes-of .ensures, omega arith)
+line-fine-requires c κs = (c .before .before .before .line-codes .ensures, omega arith)
 
 returns : tie.Need-returns Inv-loop μ-loop
-returns c = laws.count-stop (c .before .before .before .before .before .before .before .args .w) (c .before .before .before .before .before .before .before .args .l) (c .before .before .before .before .before .before .before .args .k) (c .before .before .before .before .before .before .before .args .most) (c .before .before .before .before .loop .c) (c .before .before .before .before .loop .at) (c .before .before .before .before .before .before .before .args .b .now) (c .before .before .before .before .loop .inv .2) (omega arith) (sym (c .before .line-fine .ensures) ∙ not-true (c .before .line-fine .result) (c .if1 .taken))
+returns c = laws.count-stop (c .before .before .before .before .before .before .before .args .w)
+    (c .before .before .before .before .before .before .before .args .l) (c .before .before .before .before .before .before .before .args .k)
+    (c .before .before .before .before .before .before .before .args .most) (c .before .before .before .before .loop .c)
+    (c .before .before .before .before .loop .at) (c .before .before .before .before .before .before .before .args .b .now)
+    (c .before .before .before .before .loop .inv .2) (omega arith) (sym (c .before .line-fine .ensures)
+    ∙ not-true (c .before .line-fine .result) (c .if1 .taken))
 
 add-at : tie.Need-add-at Inv-loop μ-loop
-add-at c = omega (arith, laws.fine-room (c .before .before .before .before .before .before .before .args .w) (c .before .before .before .before .before .before .before .args .l) (c .before .before .before .before .before .before .before .args .k + c .before .before .before .before .loop .c) (c .before .before .before .before .loop .at) (c .before .before .before .before .before .before .before .args .b .now) (c .before .before .before .before .loop .inv .1) (sym (c .before .line-fine .ensures) ∙ not-false (c .before .line-fine .result) (c .if1 .left)))
+add-at c = omega (
+  arith,
+  laws.fine-room (c .before .before .before .before .before .before .before .args .w)
+      (c .before .before .before .before .before .before .before .args .l)
+      (c .before .before .before .before .before .before .before .args .k + c .before .before .before .before .loop .c)
+      (c .before .before .before .before .loop .at) (c .before .before .before .before .before .before .before .args .b .now)
+      (c .before .before .before .before .loop .inv .1) (sym (c .before .line-fine .ensures) ∙ not-false (c .before .line-fine .result) (c .if1 .left)),
+)
 
 add-c : tie.Need-add-c Inv-loop μ-loop
 add-c c = search needs
@@ -52,12 +69,22 @@ loop-again : tie.Need-loop-again Inv-loop μ-loop
 loop-again c =
     let f = (sym (c .before .line-fine .ensures) ∙ not-false (c .before .line-fine .result) (c .if1 .left)) in (
       omega arith,
-      laws.fine-room (c .before .before .before .before .before .before .before .args .w) (c .before .before .before .before .before .before .before .args .l) (c .before .before .before .before .before .before .before .args .k + c .before .before .before .before .loop .c) (c .before .before .before .before .loop .at) (c .before .before .before .before .before .before .before .args .b .now) (c .before .before .before .before .loop .inv .1) f,
-      laws.count-more (c .before .before .before .before .before .before .before .args .w) (c .before .before .before .before .before .before .before .args .l) (c .before .before .before .before .before .before .before .args .k) (c .before .before .before .before .before .before .before .args .most) (c .before .before .before .before .loop .c) (c .before .before .before .before .loop .at) (c .before .before .before .before .before .before .before .args .b .now) (c .before .before .before .before .loop .inv .2) (omega arith) f,
+      laws.fine-room (c .before .before .before .before .before .before .before .args .w)
+          (c .before .before .before .before .before .before .before .args .l)
+          (c .before .before .before .before .before .before .before .args .k + c .before .before .before .before .loop .c)
+          (c .before .before .before .before .loop .at) (c .before .before .before .before .before .before .before .args .b .now)
+          (c .before .before .before .before .loop .inv .1) f,
+      laws.count-more (c .before .before .before .before .before .before .before .args .w)
+          (c .before .before .before .before .before .before .before .args .l) (c .before .before .before .before .before .before .before .args .k)
+          (c .before .before .before .before .before .before .before .args .most) (c .before .before .before .before .loop .c)
+          (c .before .before .before .before .loop .at) (c .before .before .before .before .before .before .before .args .b .now)
+          (c .before .before .before .before .loop .inv .2) (omega arith) f,
     )
 
 returns-2 : tie.Need-returns-2 Inv-loop μ-loop
-returns-2 c = laws.count-full (c .before .before .before .before .args .w) (c .before .before .before .before .args .l) (c .before .before .before .before .args .k) (c .before .before .before .before .args .most) (c .before .loop .c) (c .before .loop .at) (c .before .before .before .before .args .b .now) (c .before .loop .inv .2) (omega arith)
+returns-2 c = laws.count-full (c .before .before .before .before .args .w) (c .before .before .before .before .args .l)
+    (c .before .before .before .before .args .k) (c .before .before .before .before .args .most) (c .before .loop .c) (c .before .loop .at)
+    (c .before .before .before .before .args .b .now) (c .before .loop .inv .2) (omega arith)
 
 pub lines-ahead-spec : {M : Type 1} → statement M
 lines-ahead-spec =
@@ -65,7 +92,7 @@ lines-ahead-spec =
     (tie.spec
     Inv-loop
     μ-loop
-    codes-of-requires
+    line-codes-requires
     loop-holds
     add-line-fine
     sub-line-fine

@@ -21,17 +21,22 @@ enum-known-v-2 c = search needs
 enum-known-v-3 : tie.Need-enum-known-v-3
 enum-known-v-3 c = search needs
 
-short-row-requires : tie.Need-short-row-requires
-short-row-requires c κs = search needs
+bare-requires : tie.Need-bare-requires
+bare-requires c κs = search needs
 
 returns : tie.Need-returns
-returns c = let h = laws.copy-short (c .before .before .before .before .before .before .before .before .args .bytes .now) (c .before .before .before .before .before .before .before .before .args .k) (c .before .before .before .before .before .before .before .before .args .row .now) _ (c .before .before .before .before .before .line-view .ensures) _ _ _ (c .before .before .before .v3 .given .1) (c .before .if1 .taken) in (ap Refused (c .short-row .ensures) ∙ h .0, h .1)
+returns c =
+    let args = c .before .before .before .before .before .before .before .before .args in
+    let h = laws.copy-short (args .bytes .now) (args .k) (args .row .now) _ (c .before .before .before .before .before .line-view .ensures) _ _ _
+    (c .before .before .before .v3 .given .1) (c .before .if1 .taken) in (ap Refused (c .bare .ensures) ∙ h .0, h .1)
 
 mul-to : tie.Need-mul-to
 mul-to c = search needs
 
 add-to : tie.Need-add-to
-add-to c = let h = inside.shown-within (c .before .before .before .before .before .before .before .args .bytes .now) (c .before .before .before .before .before .before .before .args .k) _ _ _ (sym (c .before .before .before .before .line-view .ensures) ∙ c .before .before .v3 .given .1) in search needs
+add-to c = let h = inside.shown-within (c .before .before .before .before .before .before .before .args .bytes .now)
+    (c .before .before .before .before .before .before .before .args .k) _ _ _ (sym (c .before .before .before .before .line-view .ensures)
+    ∙ c .before .before .v3 .given .1) in search needs
 
 sub-write : tie.Need-sub-write
 sub-write c = search needs
@@ -40,22 +45,38 @@ part-write-start : tie.Need-part-write-start
 part-write-start c = search needs
 
 part-write-end : tie.Need-part-write-end
-part-write-end c = inside.shown-within (c .before .before .before .before .before .before .before .args .bytes .now) (c .before .before .before .before .before .before .before .args .k) _ _ _ (sym (c .before .before .before .before .line-view .ensures) ∙ c .before .before .v3 .given .1)
+part-write-end c = inside.shown-within (c .before .before .before .before .before .before .before .args .bytes .now)
+    (c .before .before .before .before .before .before .before .args .k) _ _ _ (sym (c .before .before .before .before .line-view .ensures)
+    ∙ c .before .before .v3 .given .1)
 
 write-requires : tie.Need-write-requires
 write-requires c κs = search needs
 
 returns-2 : tie.Need-returns-2
-returns-2 c = laws.copy-wait (c .before .before .before .before .before .before .args .bytes .now) (c .before .before .before .before .before .before .args .k) (c .before .before .before .before .before .before .args .row .now) _ (c .before .before .before .line-view .ensures) _ (c .before .v .given .1)
+returns-2 c = laws.copy-wait (c .before .before .before .before .before .before .args .bytes .now)
+    (c .before .before .before .before .before .before .args .k) (c .before .before .before .before .before .before .args .row .now) _
+    (c .before .before .before .line-view .ensures) _ (c .before .v .given .1)
 
 returns-3 : tie.Need-returns-3
-returns-3 c = laws.copy-refused (c .before .before .before .before .before .before .args .bytes .now) (c .before .before .before .before .before .before .args .k) (c .before .before .before .before .before .before .args .row .now) _ (c .before .before .before .line-view .ensures) _ (c .before .v2 .given .1)
+returns-3 c = laws.copy-refused (c .before .before .before .before .before .before .args .bytes .now)
+    (c .before .before .before .before .before .before .args .k) (c .before .before .before .before .before .before .args .row .now) _
+    (c .before .before .before .line-view .ensures) _ (c .before .v2 .given .1)
 
 same-length : tie.Need-same-length
 same-length c = search needs
 
 returns-4 : tie.Need-returns-4
-returns-4 c = let h = laws.copy-done (c .before .before .before .before .before .before .before .before .before .before .before .before .args .bytes .now) (c .before .before .before .before .before .before .before .before .before .before .before .before .args .k) (c .before .before .before .before .before .before .before .before .before .before .before .before .args .row .now) _ (c .before .before .before .before .before .before .before .before .before .line-view .ensures) _ _ _ (c .before .before .before .before .before .before .before .v3 .given .1) (c .before .before .before .before .before .if1 .left) _ (views.part-is (c .before .before .before .before .before .before .before .v3 .given .0 .0) (2 * c .before .before .before .before .before .before .before .v3 .given .0 .1 .0) (c .before .before .before .before .before .before .before .before .before .before .before .before .args .bytes .now)) in (h .0, c .before .before .write .ensures ∙ h .1)
+returns-4 c =
+    let args = c .before .before .before .before .before .before .before .before .before .before .before .before .args in
+    let h = laws.copy-done (args .bytes .now) (args .k) (args .row .now) _
+    (c .before .before .before .before .before .before .before .before .before .line-view .ensures) _ _ _
+    (c .before .before .before .before .before .before .before .v3 .given .1) (c .before .before .before .before .before .if1 .left) _
+    (views.part-is (c .before .before .before .before .before .before .before .v3 .given .0 .0)
+    (2 * c .before .before .before .before .before .before .before .v3 .given .0 .1 .0) (args .bytes .now)) in (
+      h .0,
+      c .before .before .write .ensures
+          ∙ h .1,
+    )
 
 pub row-copy-spec : {M : Type 1} → statement M
 row-copy-spec =
@@ -65,7 +86,7 @@ row-copy-spec =
     enum-known-v
     enum-known-v-2
     enum-known-v-3
-    short-row-requires
+    bare-requires
     returns
     mul-to
     add-to

@@ -20,7 +20,13 @@ write-fours-requires : tie.Need-write-fours-requires Inv-loop μ-loop
 write-fours-requires c κs = search needs
 
 loop-holds : tie.Need-loop-holds Inv-loop μ-loop
-loop-holds c = (c .before .before .write-fours .ensures .0, row-again (c .before .before .write-fours .result) (c .before .before .before .before .before .before .args .px .now) (c .before .before .before .before .before .before .args .row .now) _ (c .before .before .write-fours .ensures .1), search needs)
+loop-holds c = (
+  c .before .before .write-fours .ensures .0,
+  row-again (c .before .before .write-fours .result)
+      (c .before .before .before .before .before .before .args .px .now) (c .before .before .before .before .before .before .args .row .now) _
+      (c .before .before .write-fours .ensures .1),
+  search needs,
+)
 
 mul-sample : tie.Need-mul-sample Inv-loop μ-loop
 mul-sample c = search needs
@@ -41,13 +47,24 @@ loop-less : tie.Need-loop-less Inv-loop μ-loop
 loop-less c = search needs
 
 loop-again : tie.Need-loop-again Inv-loop μ-loop
-loop-again c = (search needs, row-more (c .before .before .loop .j) _ _ (c .sample .result) (c .before .before .before .before .before .before .before .before .before .args .px .now) _ (c .before .before .loop .row) (omega arith) refl refl (c .before .before .loop .inv .1) (c .sample .ensures), search needs)
+loop-again c =
+    let args = c .before .before .before .before .before .before .before .before .before .args in (
+      search needs,
+      row-more (c .before .before .loop .j) _ _ (c .sample .result) (args .px .now) _ (c .before .before .loop .row) (omega arith) refl refl
+          (c .before .before .loop .inv .1) (c .sample .ensures),
+      search needs,
+    )
 
 same-length : tie.Need-same-length Inv-loop μ-loop
 same-length c = search needs
 
 returns : tie.Need-returns Inv-loop μ-loop
-returns c = row-all (c .before .loop .j) (c .before .before .before .before .before .before .before .before .args .count) (c .before .before .before .before .before .before .before .before .args .px .now) _ (c .before .loop .row) (c .before .loop .inv .0) (omega arith) (c .before .loop .inv .1) ∙ ap (λ (l : List ℕ). samples (c .before .before .before .before .before .before .before .before .args .count) (c .before .before .before .before .before .before .before .before .args .px .now) ++ l) (row-behind (c .before .before .before .before .write-fours .result) (c .before .before .before .before .before .before .before .before .args .px .now) (c .before .before .before .before .before .before .before .before .args .row .now) _ (c .before .before .before .before .write-fours .ensures .1) (c .before .before .before .before .before .before .before .before .args .count) (c .before .before .before .before .write-fours .ensures .0))
+returns c =
+    let args = c .before .before .before .before .before .before .before .before .args in
+    row-all (c .before .loop .j) (args .count) (args .px .now) _ (c .before .loop .row) (c .before .loop .inv .0) (omega arith) (c .before .loop .inv .1)
+    ∙ ap (λ (l : List ℕ). samples (args .count) (args .px .now) ++ l)
+    (row-behind (c .before .before .before .before .write-fours .result) (args .px .now) (args .row .now) _
+    (c .before .before .before .before .write-fours .ensures .1) (args .count) (c .before .before .before .before .write-fours .ensures .0))
 
 pub write-spec : {M : Type 1} → statement M
 write-spec =

@@ -68,7 +68,11 @@ mul-row-3 : tie.Need-mul-row-3 Inv-loop μ-loop
 mul-row-3 c = search needs
 
 slice-write-row-3 : tie.Need-slice-write-row-3 Inv-loop μ-loop
-slice-write-row-3 c = omega (arith, long-two (c .before .before .before .before .loop .j) (c .before .before .sample .result) (c .before .sample2 .result) 0 (c .before .before .before .before .loop .row))
+slice-write-row-3 c = omega (
+  arith,
+  long-two (c .before .before .before .before .loop .j) (c .before .before .sample .result) (c .before .sample2 .result) 0
+      (c .before .before .before .before .loop .row),
+)
 
 mul-sample-4 : tie.Need-mul-sample-4 Inv-loop μ-loop
 mul-sample-4 c = search needs
@@ -86,7 +90,11 @@ mul-row-4 : tie.Need-mul-row-4 Inv-loop μ-loop
 mul-row-4 c = search needs
 
 slice-write-row-4 : tie.Need-slice-write-row-4 Inv-loop μ-loop
-slice-write-row-4 c = omega (arith, long-three (c .before .before .before .before .before .loop .j) (c .before .before .before .sample .result) (c .before .before .sample2 .result) (c .before .sample3 .result) (c .before .before .before .before .before .loop .row))
+slice-write-row-4 c = omega (
+  arith,
+  long-three (c .before .before .before .before .before .loop .j) (c .before .before .before .sample .result)
+      (c .before .before .sample2 .result) (c .before .sample3 .result) (c .before .before .before .before .before .loop .row),
+)
 
 add-j : tie.Need-add-j Inv-loop μ-loop
 add-j c = search needs
@@ -95,7 +103,16 @@ loop-less : tie.Need-loop-less Inv-loop μ-loop
 loop-less c = search needs
 
 loop-again : tie.Need-loop-again Inv-loop μ-loop
-loop-again c = (search needs, row-four (c .before .before .before .before .before .loop .j) (c .before .before .before .sample .result) (c .before .before .sample2 .result) (c .before .sample3 .result) (c .before .before .before .before .before .loop .row) (c .sample4 .result) (c .before .before .before .before .before .before .before .before .args .px .now) (c .before .before .before .before .before .before .before .before .args .row .now) (omega (arith, (c .before .before .before .before .before .before .before .before .pre) .1)) (c .before .before .before .before .before .loop .inv .1) (c .before .before .before .sample .ensures) (c .before .before .sample2 .ensures) (c .before .sample3 .ensures) (c .sample4 .ensures), search needs)
+loop-again c =
+    let args = c .before .before .before .before .before .before .before .before .args in (
+      search needs,
+      row-four (c .before .before .before .before .before .loop .j) (c .before .before .before .sample .result)
+          (c .before .before .sample2 .result) (c .before .sample3 .result) (c .before .before .before .before .before .loop .row) (c .sample4 .result)
+          (args .px .now) (args .row .now) (omega (arith, (c .before .before .before .before .before .before .before .before .pre) .1))
+          (c .before .before .before .before .before .loop .inv .1) (c .before .before .before .sample .ensures) (c .before .before .sample2 .ensures)
+          (c .before .sample3 .ensures) (c .sample4 .ensures),
+      search needs,
+    )
 
 same-length : tie.Need-same-length Inv-loop μ-loop
 same-length c = search needs

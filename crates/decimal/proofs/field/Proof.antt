@@ -1,8 +1,9 @@
--- A field is blank, or it is read by its sort: each return is the definition's branch, the parts of an E field lent by their lengths.
+-- A field is blank, or it is read by its shape: each return is the definition's branch, the parts of an E field lent by their lengths.
 use borrow.Author.Needs.{needs}
 use native.Mathlib.Omega.{arith}
 use mathlib.Core.Path.{sym, _∙_, ap, ap₂}
-use Rattle.decimal.specs.Scan.{numberOf, exponentOf, plainOf, scaledOf}
+use Rattle.digits.specs.Segments.{exponentOf}
+use Rattle.decimal.specs.Scan.{numberIn, plainOf, scaledOf}
 use Rattle.decimal.proofs.Laws as laws
 use Rattle.decimal.proofs.field.Statement.{statement}
 use Rattle.decimal.proofs.field.Tie as tie
@@ -22,26 +23,27 @@ mantissa-requires c κs = rw (c .enum-told .given .1) at (c .before .before .bef
 plain-requires : tie.Need-plain-requires
 plain-requires c κs = search needs
 
-enum-known-sort : tie.Need-enum-known-sort
-enum-known-sort c = search needs
+enum-known-shape : tie.Need-enum-known-shape
+enum-known-shape c = search needs
 
 mantissa-requires-2 : tie.Need-mantissa-requires-2
-mantissa-requires-2 c κs = rw (c .before .sort .given .1) at (c .before .before .before .before .before .before .pre)
+mantissa-requires-2 c κs = rw (c .before .shape .given .1) at (c .before .before .before .before .before .before .pre)
 
 plain-requires-2 : tie.Need-plain-requires-2
 plain-requires-2 c κs = search needs
 
-enum-known-sort-2 : tie.Need-enum-known-sort-2
-enum-known-sort-2 c = search needs
+enum-known-shape-2 : tie.Need-enum-known-shape-2
+enum-known-shape-2 c = search needs
 
 sub-e : tie.Need-sub-e
-sub-e c = omega (arith, rw (c .before .sort2 .given .1) at (c .before .before .before .before .before .before .pre))
+sub-e c = omega (arith, rw (c .before .shape2 .given .1) at (c .before .before .before .before .before .before .pre))
 
 slice-aggregate-mantissa : tie.Need-slice-aggregate-mantissa
 slice-aggregate-mantissa c = sym (laws.front-length (c .before .before .before .before .before .before .before .args .f .now))
 
 mantissa-requires-3 : tie.Need-mantissa-requires-3
-mantissa-requires-3 c κs = rw laws.front-length (omega (arith, rw (c .before .before .sort2 .given .1) at (c .before .before .before .before .before .before .before .pre)))
+mantissa-requires-3 c κs = rw laws.front-length
+    (omega (arith, rw (c .before .before .shape2 .given .1) at (c .before .before .before .before .before .before .before .pre)))
 
 sub-exponent : tie.Need-sub-exponent
 sub-exponent c = search needs
@@ -53,28 +55,50 @@ part-exponent-end : tie.Need-part-exponent-end
 part-exponent-end c = search needs
 
 exponent-requires : tie.Need-exponent-requires
-exponent-requires c κs = laws.last-four (c .before .before .before .before .before .before .before .before .before .args .f .now) (omega (arith, rw (c .before .before .before .before .sort2 .given .1) at (c .before .before .before .before .before .before .before .before .before .pre)))
+exponent-requires c κs =
+    let args = c .before .before .before .before .before .before .before .before .before .args in
+    laws.last-four (args .f .now)
+    (omega (
+      arith,
+      rw (c .before .before .before .before .shape2 .given .1) at
+          (c .before .before .before .before .before .before .before .before .before .pre),
+    ))
 
 scaled-requires : tie.Need-scaled-requires
 scaled-requires c κs = search needs
 
 returns-2 : tie.Need-returns-2
-unfolding numberOf
+unfolding numberIn
 returns-2 c =
-    rw (laws.blank-no _ _ _ (c .before .before .before .before .before .skip .ensures .rest) (c .before .before .before .before .before .skip .ensures .upto) (c .before .before .before .before .if1 .left), c .before .before .enum-told .given .1)
+    rw (
+      laws.blank-no _ _ _ (c .before .before .before .before .before .skip .ensures .rest)
+          (c .before .before .before .before .before .skip .ensures .upto) (c .before .before .before .before .if1 .left),
+      c .before .before .enum-told .given .1,
+    )
     (c .plain .ensures ∙ ap plainOf (c .before .mantissa .ensures .is))
 
 returns-3 : tie.Need-returns-3
-unfolding numberOf
+unfolding numberIn
 returns-3 c =
-    rw (laws.blank-no _ _ _ (c .before .before .before .before .before .before .skip .ensures .rest) (c .before .before .before .before .before .before .skip .ensures .upto) (c .before .before .before .before .before .if1 .left), c .before .before .before .sort .given .1)
+    rw (
+      laws.blank-no _ _ _ (c .before .before .before .before .before .before .skip .ensures .rest)
+          (c .before .before .before .before .before .before .skip .ensures .upto) (c .before .before .before .before .before .if1 .left),
+      c .before .before .before .shape .given .1,
+    )
     (c .plain2 .ensures ∙ ap plainOf (c .before .mantissa2 .ensures .is))
 
 returns-4 : tie.Need-returns-4
-unfolding numberOf
+unfolding numberIn
 returns-4 c =
-    rw (laws.blank-no _ _ _ (c .before .before .before .before .before .before .before .before .before .skip .ensures .rest) (c .before .before .before .before .before .before .before .before .before .skip .ensures .upto) (c .before .before .before .before .before .before .before .before .if1 .left), c .before .before .before .before .before .before .sort2 .given .1)
-    (c .scaled .ensures ∙ ap₂ scaledOf (c .before .before .before .mantissa3 .ensures .is) (c .before .exponent .ensures .is ∙ ap exponentOf (laws.last-part (c .before .before .before .before .before .before .before .before .before .before .before .args .f .now) _)))
+    let args = c .before .before .before .before .before .before .before .before .before .before .before .args in
+    rw (
+      laws.blank-no _ _ _ (c .before .before .before .before .before .before .before .before .before .skip .ensures .rest)
+          (c .before .before .before .before .before .before .before .before .before .skip .ensures .upto)
+          (c .before .before .before .before .before .before .before .before .if1 .left),
+      c .before .before .before .before .before .before .shape2 .given .1,
+    )
+    (c .scaled .ensures ∙ ap₂ scaledOf (c .before .before .before .mantissa3 .ensures .is) (c .before .exponent .ensures .is
+    ∙ ap exponentOf (laws.last-part (args .f .now) _)))
 
 pub field-spec : {M : Type 1} → statement M
 field-spec =
@@ -85,10 +109,10 @@ field-spec =
     enum-told
     mantissa-requires
     plain-requires
-    enum-known-sort
+    enum-known-shape
     mantissa-requires-2
     plain-requires-2
-    enum-known-sort-2
+    enum-known-shape-2
     sub-e
     slice-aggregate-mantissa
     mantissa-requires-3

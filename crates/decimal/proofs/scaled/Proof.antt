@@ -29,7 +29,14 @@ returns : tie.Need-returns
 returns c =
     let e : toZ w64 (ofZ w64 (c .before .signed .result)) ≡ c .before .signed .result = search needs in
     let g : toZ w64 (ofZ w64 (c .signed2 .result)) ≡ c .signed2 .result = search needs in
-    rw (e, g, c .before .signed .ensures, c .signed2 .ensures, c .before .before .before .before .before .before .x .given .1, c .before .before .before .y .given .1)
+    rw (
+      e,
+      g,
+      c .before .signed .ensures,
+      c .signed2 .ensures,
+      c .before .before .before .before .before .before .x .given .1,
+      c .before .before .before .y .given .1,
+    )
 
 returns-2 : tie.Need-returns-2
 returns-2 c = search needs

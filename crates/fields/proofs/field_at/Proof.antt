@@ -20,7 +20,9 @@ refused-requires c κs = search needs
 
 returns : tie.Need-returns
 unfolding fieldAt
-returns c = c .refused .ensures ∙ sym (laws.short (c .before .before .before .before .args .bytes .now) (c .before .before .before .before .args .at) (c .before .before .before .before .args .form) (omega (arith, c .before .before .width .ensures)))
+returns c = c .refused .ensures
+    ∙ sym (laws.short (c .before .before .before .before .args .bytes .now) (c .before .before .before .before .args .at)
+    (c .before .before .before .before .args .form) (omega (arith, c .before .before .width .ensures)))
 
 sub-if2 : tie.Need-sub-if2
 sub-if2 c = search needs
@@ -30,7 +32,9 @@ refused-requires-2 c κs = search needs
 
 returns-2 : tie.Need-returns-2
 unfolding fieldAt
-returns-2 c = c .refused2 .ensures ∙ sym (laws.short (c .before .before .before .before .before .args .bytes .now) (c .before .before .before .before .before .args .at) (c .before .before .before .before .before .args .form) (omega (arith, c .before .before .before .width .ensures)))
+returns-2 c = c .refused2 .ensures
+    ∙ sym (laws.short (c .before .before .before .before .before .args .bytes .now) (c .before .before .before .before .before .args .at)
+    (c .before .before .before .before .before .args .form) (omega (arith, c .before .before .before .width .ensures)))
 
 add-end : tie.Need-add-end
 add-end c = search needs
@@ -54,8 +58,12 @@ returns-3 : tie.Need-returns-3
 unfolding fieldAt
 returns-3 c =
     let b = c .before .before .before .before .before .before .before .args .bytes .now in
-    let q = ap (λ n. written (c .before .before .before .before .before .before .before .args .form) (take n (drop (c .before .before .before .before .before .before .before .args .at) b))) (laws.extent (c .before .before .before .before .before .before .before .args .at) (c .before .before .before .before .before .width .ensures)) in
-    c .from-written .ensures ∙ ap (fromWritten (c .before .before .before .before .before .before .before .args .at)) (c .before .read .ensures .1 ∙ q) ∙ sym (laws.whole b (c .before .before .before .before .before .before .before .args .at) (c .before .before .before .before .before .before .before .args .form) (omega (arith, c .before .before .before .before .before .width .ensures)))
+    let q = ap (λ n. written (c .before .before .before .before .before .before .before .args .form)
+    (take n (drop (c .before .before .before .before .before .before .before .args .at) b)))
+    (laws.extent (c .before .before .before .before .before .before .before .args .at) (c .before .before .before .before .before .width .ensures)) in
+    c .from-written .ensures ∙ ap (fromWritten (c .before .before .before .before .before .before .before .args .at)) (c .before .read .ensures .1 ∙ q)
+    ∙ sym (laws.whole b (c .before .before .before .before .before .before .before .args .at)
+    (c .before .before .before .before .before .before .before .args .form) (omega (arith, c .before .before .before .before .before .width .ensures)))
 
 pub field-at-spec : {M : Type 1} → statement M
 field-at-spec =

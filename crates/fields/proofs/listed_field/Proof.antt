@@ -14,7 +14,8 @@ sub-listed-row : tie.Need-sub-listed-row
 sub-listed-row c = let i = within-true 1 (c .before .before .before .args .number) 13 (sym (c .before .within .ensures) ∙ c .if1 .taken) in omega (arith, i .0)
 
 listed-row-requires : tie.Need-listed-row-requires
-listed-row-requires c κs = let i = within-true 1 (c .before .before .before .args .number) 13 (sym (c .before .within .ensures) ∙ c .if1 .taken) in omega (arith, i .0, i .1)
+listed-row-requires c κs = let i = within-true 1 (c .before .before .before .args .number) 13 (sym (c .before .within .ensures)
+    ∙ c .if1 .taken) in omega (arith, i .0, i .1)
 
 place-requires : tie.Need-place-requires
 place-requires c κs = search needs
@@ -23,13 +24,18 @@ field-at-requires : tie.Need-field-at-requires
 field-at-requires c κs = search needs
 
 returns : tie.Need-returns
-returns c = c .field-at .ensures ∙ (rw (c .before .place .ensures, c .before .before .listed-row .ensures)) ∙ sym (laws.inside (c .before .before .before .before .before .before .args .bytes .now) (c .before .before .before .before .before .before .args .number) (sym (c .before .before .before .before .within .ensures) ∙ c .before .before .before .if1 .taken))
+returns c = c .field-at .ensures ∙ (rw (c .before .place .ensures, c .before .before .listed-row .ensures))
+    ∙ sym (laws.inside (c .before .before .before .before .before .before .args .bytes .now)
+    (c .before .before .before .before .before .before .args .number) (sym (c .before .before .before .before .within .ensures)
+    ∙ c .before .before .before .if1 .taken))
 
 refused-requires : tie.Need-refused-requires
 refused-requires c κs = search needs
 
 returns-2 : tie.Need-returns-2
-returns-2 c = c .refused .ensures ∙ sym (laws.unlisted (c .before .before .before .before .args .bytes .now) (c .before .before .before .before .args .number) (sym (c .before .before .within .ensures) ∙ c .before .if1 .left))
+returns-2 c = c .refused .ensures
+    ∙ sym (laws.unlisted (c .before .before .before .before .args .bytes .now) (c .before .before .before .before .args .number)
+    (sym (c .before .before .within .ensures) ∙ c .before .if1 .left))
 
 pub listed-field-spec : {M : Type 1} → statement M
 listed-field-spec =

@@ -103,7 +103,16 @@ returns-12 c = c .row12 .ensures ∙ sym (ap listed (c .before .match .keys12))
 
 returns-13 : tie.Need-returns-13
 unfolding listed
-returns-13 c = c .row13 .ensures ∙ sym (ap listed (last _ (past 11 _ (past 10 _ (past 9 _ (past 8 _ (past 7 _ (past 6 _ (past 5 _ (past 4 _ (past 3 _ (past 2 _ (past 1 _ (past 0 _ zero-le (c .before .match .rest .0 .0 .0 .0 .0 .0 .0 .0 .0 .0 .0 .1)) (c .before .match .rest .0 .0 .0 .0 .0 .0 .0 .0 .0 .0 .1)) (c .before .match .rest .0 .0 .0 .0 .0 .0 .0 .0 .0 .1)) (c .before .match .rest .0 .0 .0 .0 .0 .0 .0 .0 .1)) (c .before .match .rest .0 .0 .0 .0 .0 .0 .0 .1)) (c .before .match .rest .0 .0 .0 .0 .0 .0 .1)) (c .before .match .rest .0 .0 .0 .0 .0 .1)) (c .before .match .rest .0 .0 .0 .0 .1)) (c .before .match .rest .0 .0 .0 .1)) (c .before .match .rest .0 .0 .1)) (c .before .match .rest .0 .1)) (c .before .match .rest .1)) (c .before .before .pre)))
+returns-13 c = c .row13 .ensures
+    ∙ sym (ap listed (last _
+    (past 11 _ (past 10 _
+    (past 9 _ (past 8 _ (past 7 _
+    (past 6 _ (past 5 _ (past 4 _
+    (past 3 _ (past 2 _ (past 1 _ (past 0 _ zero-le (c .before .match .rest .0 .0 .0 .0 .0 .0 .0 .0 .0 .0 .0 .1))
+    (c .before .match .rest .0 .0 .0 .0 .0 .0 .0 .0 .0 .0 .1)) (c .before .match .rest .0 .0 .0 .0 .0 .0 .0 .0 .0 .1))
+    (c .before .match .rest .0 .0 .0 .0 .0 .0 .0 .0 .1)) (c .before .match .rest .0 .0 .0 .0 .0 .0 .0 .1)) (c .before .match .rest .0 .0 .0 .0 .0 .0 .1))
+    (c .before .match .rest .0 .0 .0 .0 .0 .1)) (c .before .match .rest .0 .0 .0 .0 .1)) (c .before .match .rest .0 .0 .0 .1))
+    (c .before .match .rest .0 .0 .1)) (c .before .match .rest .0 .1)) (c .before .match .rest .1)) (c .before .before .pre)))
 
 pub listed-row-spec : {M : Type 1} → statement M
 listed-row-spec =

@@ -43,7 +43,17 @@ both-requires-3 c κs = search needs
 
 returns : tie.Need-returns
 unfolding codesAre
-returns c = both≡ (c .both3 .ensures) (both≡ (c .before .before .before .before .before .before .before .both .ensures) (c .before .before .before .before .before .before .before .before .before .before .is .ensures ∙ ap (λ (x : ℕ). eqb x (c .before .before .before .before .before .before .before .before .before .before .before .before .before .args .c .one)) (c .before .before .before .before .before .before .before .before .before .before .before .byte .ensures .0)) (c .before .before .before .before .before .before .before .before .is2 .ensures ∙ ap (λ (x : ℕ). eqb x (c .before .before .before .before .before .before .before .before .before .before .before .before .before .args .c .two)) (c .before .before .before .before .before .before .before .before .before .byte2 .ensures .0))) (both≡ (c .before .both2 .ensures) (c .before .before .before .before .before .is3 .ensures ∙ ap (λ (x : ℕ). eqb x (c .before .before .before .before .before .before .before .before .before .before .before .before .before .args .c .three)) (c .before .before .before .before .before .before .byte3 .ensures .0)) (simp (c .before .before .if1 .taken)))
+returns c =
+    let args = c .before .before .before .before .before .before .before .before .before .before .before .before .before .args in
+    both≡ (c .both3 .ensures)
+    (both≡ (c .before .before .before .before .before .before .before .both .ensures)
+    (c .before .before .before .before .before .before .before .before .before .before .is .ensures
+    ∙ ap (λ (x : ℕ). eqb x (args .c .one))
+    (c .before .before .before .before .before .before .before .before .before .before .before .byte .ensures .0))
+    (c .before .before .before .before .before .before .before .before .is2 .ensures
+    ∙ ap (λ (x : ℕ). eqb x (args .c .two)) (c .before .before .before .before .before .before .before .before .before .byte2 .ensures .0)))
+    (both≡ (c .before .both2 .ensures) (c .before .before .before .before .before .is3 .ensures
+    ∙ ap (λ (x : ℕ). eqb x (args .c .three)) (c .before .before .before .before .before .before .byte3 .ensures .0)) (simp (c .before .before .if1 .taken)))
 
 both-requires-4 : tie.Need-both-requires-4
 both-requires-4 c κs = search needs
@@ -53,7 +63,19 @@ both-requires-5 c κs = search needs
 
 returns-2 : tie.Need-returns-2
 unfolding codesAre
-returns-2 c = both≡ (c .both5 .ensures) (both≡ (c .before .before .before .before .before .before .before .both .ensures) (c .before .before .before .before .before .before .before .before .before .before .is .ensures ∙ ap (λ (x : ℕ). eqb x (c .before .before .before .before .before .before .before .before .before .before .before .before .before .args .c .one)) (c .before .before .before .before .before .before .before .before .before .before .before .byte .ensures .0)) (c .before .before .before .before .before .before .before .before .is2 .ensures ∙ ap (λ (x : ℕ). eqb x (c .before .before .before .before .before .before .before .before .before .before .before .before .before .args .c .two)) (c .before .before .before .before .before .before .before .before .before .byte2 .ensures .0))) (both≡ (c .before .both4 .ensures) (c .before .before .before .before .before .is3 .ensures ∙ ap (λ (x : ℕ). eqb x (c .before .before .before .before .before .before .before .before .before .before .before .before .before .args .c .three)) (c .before .before .before .before .before .before .byte3 .ensures .0)) (c .before .before .before .is4 .ensures ∙ ap (λ (x : ℕ). eqb x (c .before .before .before .before .before .before .before .before .before .before .before .before .before .args .c .four)) (c .before .before .before .before .byte4 .ensures .0) ∙ simp (c .before .before .if1 .left)))
+returns-2 c =
+    let args = c .before .before .before .before .before .before .before .before .before .before .before .before .before .args in
+    both≡ (c .both5 .ensures)
+    (both≡ (c .before .before .before .before .before .before .before .both .ensures)
+    (c .before .before .before .before .before .before .before .before .before .before .is .ensures
+    ∙ ap (λ (x : ℕ). eqb x (args .c .one))
+    (c .before .before .before .before .before .before .before .before .before .before .before .byte .ensures .0))
+    (c .before .before .before .before .before .before .before .before .is2 .ensures
+    ∙ ap (λ (x : ℕ). eqb x (args .c .two)) (c .before .before .before .before .before .before .before .before .before .byte2 .ensures .0)))
+    (both≡ (c .before .both4 .ensures) (c .before .before .before .before .before .is3 .ensures
+    ∙ ap (λ (x : ℕ). eqb x (args .c .three)) (c .before .before .before .before .before .before .byte3 .ensures .0))
+    (c .before .before .before .is4 .ensures ∙ ap (λ (x : ℕ). eqb x (args .c .four)) (c .before .before .before .before .byte4 .ensures .0)
+    ∙ simp (c .before .before .if1 .left)))
 
 pub codes-are-spec : {M : Type 1} → statement M
 codes-are-spec =

@@ -21,11 +21,25 @@ four-requires-2 c κs = search needs
 
 returns-2 : tie.Need-returns-2
 unfolding headerOf headerTests firstFault
-returns-2 c = simp (← c .before .before .before .before .before .four .ensures .0, eq-eqb _ _ (c .before .before .before .before .if1 .left), ← c .before .before .before .codes-are .ensures, c .before .before .if2 .taken, ← c .before .four2 .ensures .0, ne-eqb _ _ (c .if3 .taken))
+returns-2 c = simp (
+  ← c .before .before .before .before .before .four .ensures .0,
+  eq-eqb _ _ (c .before .before .before .before .if1 .left),
+  ← c .before .before .before .codes-are .ensures,
+  c .before .before .if2 .taken,
+  ← c .before .four2 .ensures .0,
+  ne-eqb _ _ (c .if3 .taken),
+)
 
 returns-3 : tie.Need-returns-3
 unfolding headerOf headerTests firstFault
-returns-3 c = simp (← c .before .before .before .before .before .four .ensures .0, eq-eqb _ _ (c .before .before .before .before .if1 .left), ← c .before .before .before .codes-are .ensures, c .before .before .if2 .taken, ← c .before .four2 .ensures .0, eq-eqb _ _ (c .if3 .left))
+returns-3 c = simp (
+  ← c .before .before .before .before .before .four .ensures .0,
+  eq-eqb _ _ (c .before .before .before .before .if1 .left),
+  ← c .before .before .before .codes-are .ensures,
+  c .before .before .if2 .taken,
+  ← c .before .four2 .ensures .0,
+  eq-eqb _ _ (c .if3 .left),
+)
 
 returns-4 : tie.Need-returns-4
 unfolding headerOf headerTests firstFault

@@ -33,10 +33,13 @@ both-requires-2 c κs = search needs
 returns : tie.Need-returns
 unfolding headerTests
 returns c =
+    let args = c .before .before .before .before .before .before .before .before .args in
     c .both2 .ensures
-    ∙ ap₂ bothOf (c .before .before .before .before .before .is .ensures ∙ ap (λ (n : ℕ). eqb n (c .before .before .before .before .before .before .before .before .args .ordinal)) (c .before .before .before .before .before .before .four-there .ensures .0))
+    ∙ ap₂ bothOf (c .before .before .before .before .before .is .ensures
+    ∙ ap (λ (n : ℕ). eqb n (args .ordinal)) (c .before .before .before .before .before .before .four-there .ensures .0))
     (c .before .both .ensures
-    ∙ ap₂ bothOf (c .before .before .codes-are .ensures) (c .before .before .before .is2 .ensures ∙ ap (λ (n : ℕ). eqb n (c .before .before .before .before .before .before .before .before .args .long)) (c .before .before .before .before .four-there2 .ensures .0)))
+    ∙ ap₂ bothOf (c .before .before .codes-are .ensures) (c .before .before .before .is2 .ensures
+    ∙ ap (λ (n : ℕ). eqb n (args .long)) (c .before .before .before .before .four-there2 .ensures .0)))
     ∙ all-three _ _ _
 
 pub header-there-spec : {M : Type 1} → statement M

@@ -47,7 +47,8 @@ place-requires-5 c κs = search needs
 
 four-there-requires-5 : tie.Need-four-there-requires-5
 unfolding placeOf
-four-there-requires-5 c κs = omega (arith, c .place5 .ensures, (c .before .before .before .before .before .before .before .before .before .before .before .before .pre))
+four-there-requires-5 c κs = omega
+    (arith, c .place5 .ensures, (c .before .before .before .before .before .before .before .before .before .before .before .before .pre))
 
 add-is : tie.Need-add-is
 add-is c = search needs
@@ -66,13 +67,18 @@ both-requires-2 c κs = search needs
 
 returns : tie.Need-returns
 returns c =
-    let r = c .before .before .before .before .before .before .before .before .before .before .before .before .before .before .before .before .args .r .now in
+    let args = c .before .before .before .before .before .before .before .before .before .before .before .before .before .before .before .before .args in
+    let r = args .r .now in
     c .both2 .ensures
-    ∙ ap₂ bothOf (c .before .before .before .before .before .before .before .before .before .before .before .before .is .ensures) (c .before .both .ensures ∙ ap₂ bothOf (c .before .before .before .before .before .before .before .before .before .is2 .ensures) (c .before .before .is3 .ensures))
-    ∙ laws.line-holds (c .before .before .before .before .before .before .before .before .before .before .before .before .before .before .before .before .args .w) (c .before .before .before .before .before .before .before .before .before .before .before .before .before .before .before .before .args .k) r _ _ _ _ _
-    (c .before .before .before .before .before .before .before .before .before .before .before .before .before .four-there .ensures .0 ∙ ap (fourAt r) (c .before .before .before .before .before .before .before .before .before .before .before .before .before .before .place .ensures))
-    (c .before .before .before .before .before .before .before .before .before .before .four-there2 .ensures .0 ∙ ap (fourAt r) (c .before .before .before .before .before .before .before .before .before .before .before .place2 .ensures))
-    (c .before .before .before .before .before .before .before .four-there3 .ensures .0 ∙ ap (fourAt r) (c .before .before .before .before .before .before .before .before .place3 .ensures))
+    ∙ ap₂ bothOf (c .before .before .before .before .before .before .before .before .before .before .before .before .is .ensures) (c .before .both .ensures
+    ∙ ap₂ bothOf (c .before .before .before .before .before .before .before .before .before .is2 .ensures) (c .before .before .is3 .ensures))
+    ∙ laws.line-holds (args .w) (args .k) r _ _ _ _ _
+    (c .before .before .before .before .before .before .before .before .before .before .before .before .before .four-there .ensures .0
+    ∙ ap (fourAt r) (c .before .before .before .before .before .before .before .before .before .before .before .before .before .before .place .ensures))
+    (c .before .before .before .before .before .before .before .before .before .before .four-there2 .ensures .0
+    ∙ ap (fourAt r) (c .before .before .before .before .before .before .before .before .before .before .before .place2 .ensures))
+    (c .before .before .before .before .before .before .before .four-there3 .ensures .0
+    ∙ ap (fourAt r) (c .before .before .before .before .before .before .before .before .place3 .ensures))
     (c .before .before .before .before .before .four-there4 .ensures .0 ∙ ap (fourAt r) (c .before .before .before .before .before .before .place4 .ensures))
     (c .before .before .before .four-there5 .ensures .0 ∙ ap (fourAt r) (c .before .before .before .before .place5 .ensures))
 

@@ -19,7 +19,8 @@ sub-t15 : tie.Need-sub-t15
 sub-t15 c = search needs
 
 returns : tie.Need-returns
-returns c = sym (laws.at-short group (c .before .before .before .args .p) (c .before .before .before .args .k) (c .before .before .before .args .s) (c .before .before .before .args .bytes .now) (c .if1 .taken))
+returns c = sym (laws.at-short group (c .before .before .before .args .p) (c .before .before .before .args .k) (c .before .before .before .args .d)
+    (c .before .before .before .args .bytes .now) (c .if1 .taken))
 
 sub-r : tie.Need-sub-r
 sub-r c = search needs
@@ -37,13 +38,21 @@ enum-known-v : tie.Need-enum-known-v
 enum-known-v c = search needs
 
 add-t18 : tie.Need-add-t18
-add-t18 c = search needs
-
-add-t19 : tie.Need-add-t19
-add-t19 c = omega (arith, subst Near (c .before .before .v .given .1) (subst Near (sym (c .before .before .before .before .found .ensures)) (laws.found-near _ _ _ _)), (c .before .before .before .before .before .before .before .before .before .pre) .1 .start)
+add-t18 c = omega (
+  arith,
+  subst Near (c .before .before .v .given .1)
+      (subst Near (sym (c .before .before .before .before .found .ensures)) (laws.found-near _ _ _ _)),
+  (c .before .before .before .before .before .before .before .before .before .pre) .1 .start,
+)
 
 returns-2 : tie.Need-returns-2
-returns-2 c = sym (laws.at-whole group (c .before .before .before .before .before .before .before .before .before .args .p) (c .before .before .before .before .before .before .before .before .before .args .k) (c .before .before .before .before .before .before .before .before .before .args .s) (c .before .before .before .before .before .before .before .before .before .args .bytes .now) (c .before .before .before .before .before .before .if1 .left) ∙ ap (λ (v : Verdict). onVerdict v (c .before .before .before .before .before .before .before .before .before .args .k + 1) (c .before .before .before .before .before .before .before .before .before .args .s .start) (shownOf group (c .before .before .before .before .before .before .before .before .before .args .p) (c .before .before .before .before .before .before .before .before .before .args .s .start) (recordAt (c .before .before .before .before .before .before .before .before .before .args .s) (c .before .before .before .before .before .before .before .before .before .args .bytes .now)))) (sym (c .before .before .before .before .found .ensures ∙ ap (λ (r : List ℕ). foundIn (c .before .before .before .before .before .before .before .before .before .args .p) (c .before .before .before .before .before .before .before .before .before .args .k) (c .before .before .before .before .before .before .before .before .before .args .s) r) (laws.part-is (c .before .before .before .before .before .before .before .before .before .args .s .start) (c .before .before .before .before .before .before .before .before .before .args .s .length) (c .before .before .before .before .before .before .before .before .before .args .bytes .now))) ∙ c .before .before .v .given .1))
+returns-2 c =
+    let args = c .before .before .before .before .before .before .before .before .before .args in
+    sym (laws.at-whole group (args .p) (args .k) (args .d) (args .bytes .now) (c .before .before .before .before .before .before .if1 .left)
+    ∙ ap (λ (v : Verdict). onVerdict v (args .d .ordinal) (args .d .start)
+    (shownOf group (args .p) (args .d .start) (recordAt (args .d) (args .bytes .now)))) (sym (c .before .before .before .before .found .ensures
+    ∙ ap (λ (r : List ℕ). foundIn (args .p) (args .k) (args .d) r) (laws.part-is (args .d .start) (args .d .length) (args .bytes .now)))
+    ∙ c .before .before .v .given .1))
 
 enum-told : tie.Need-enum-told
 enum-told c = search needs
@@ -52,7 +61,15 @@ shown-requires : tie.Need-shown-requires
 shown-requires c κs = search needs
 
 returns-3 : tie.Need-returns-3
-returns-3 c = c .shown .ensures ∙ ap (λ (r : List ℕ). shownOf group (c .before .before .before .before .before .before .before .before .args .p) (c .before .before .before .before .before .before .before .before .args .s .start) r) (laws.part-is (c .before .before .before .before .before .before .before .before .args .s .start) (c .before .before .before .before .before .before .before .before .args .s .length) (c .before .before .before .before .before .before .before .before .args .bytes .now)) ∙ sym (laws.at-whole group (c .before .before .before .before .before .before .before .before .args .p) (c .before .before .before .before .before .before .before .before .args .k) (c .before .before .before .before .before .before .before .before .args .s) (c .before .before .before .before .before .before .before .before .args .bytes .now) (c .before .before .before .before .before .if1 .left) ∙ ap (λ (v : Verdict). onVerdict v (c .before .before .before .before .before .before .before .before .args .k + 1) (c .before .before .before .before .before .before .before .before .args .s .start) (shownOf group (c .before .before .before .before .before .before .before .before .args .p) (c .before .before .before .before .before .before .before .before .args .s .start) (recordAt (c .before .before .before .before .before .before .before .before .args .s) (c .before .before .before .before .before .before .before .before .args .bytes .now)))) (sym (c .before .before .before .found .ensures ∙ ap (λ (r : List ℕ). foundIn (c .before .before .before .before .before .before .before .before .args .p) (c .before .before .before .before .before .before .before .before .args .k) (c .before .before .before .before .before .before .before .before .args .s) r) (laws.part-is (c .before .before .before .before .before .before .before .before .args .s .start) (c .before .before .before .before .before .before .before .before .args .s .length) (c .before .before .before .before .before .before .before .before .args .bytes .now))) ∙ c .before .enum-told .given .1))
+returns-3 c =
+    let args = c .before .before .before .before .before .before .before .before .args in
+    c .shown .ensures ∙ ap (λ (r : List ℕ). shownOf group (args .p) (args .d .start) r)
+    (laws.part-is (args .d .start) (args .d .length) (args .bytes .now))
+    ∙ sym (laws.at-whole group (args .p) (args .k) (args .d) (args .bytes .now) (c .before .before .before .before .before .if1 .left)
+    ∙ ap (λ (v : Verdict). onVerdict v (args .d .ordinal) (args .d .start)
+    (shownOf group (args .p) (args .d .start) (recordAt (args .d) (args .bytes .now)))) (sym (c .before .before .before .found .ensures
+    ∙ ap (λ (r : List ℕ). foundIn (args .p) (args .k) (args .d) r) (laws.part-is (args .d .start) (args .d .length) (args .bytes .now)))
+    ∙ c .before .enum-told .given .1))
 
 pub line-at-spec : {M : Type 1} → statement M
 line-at-spec =
@@ -67,7 +84,6 @@ line-at-spec =
     found-requires
     enum-known-v
     add-t18
-    add-t19
     returns-2
     enum-told
     shown-requires

@@ -22,19 +22,33 @@ enum-known-stop : tie.Need-enum-known-stop
 enum-known-stop c = search needs
 
 returns : tie.Need-returns
-returns c = laws.view-wait (c .before .before .before .before .before .before .before .before .args .bytes .now) _ _ (c .before .before .before .before .before .begin .ensures) (c .before .before .before .step .ensures) group (c .before .before .before .before .before .before .before .before .args .k) _ (c .before .stop .given .1)
+returns c =
+    let args = c .before .before .before .before .before .before .before .before .args in
+    laws.view-wait (args .bytes .now) _ _ (c .before .before .before .before .before .begin .ensures) (c .before .before .before .step .ensures) group
+    (args .k) _ (c .before .stop .given .1)
 
 enum-known-stop-2 : tie.Need-enum-known-stop-2
 enum-known-stop-2 c = search needs
 
 returns-2 : tie.Need-returns-2
-returns-2 c = laws.view-refused (c .before .before .before .before .before .before .before .before .before .args .bytes .now) _ _ (c .before .before .before .before .before .before .begin .ensures) (c .before .before .before .before .step .ensures) group (c .before .before .before .before .before .before .before .before .before .args .k) _ (c .before .stop2 .given .1)
+returns-2 c =
+    let args = c .before .before .before .before .before .before .before .before .before .args in
+    laws.view-refused (args .bytes .now) _ _ (c .before .before .before .before .before .before .begin .ensures)
+    (c .before .before .before .before .step .ensures) group (args .k) _ (c .before .stop2 .given .1)
 
 line-requires : tie.Need-line-requires
-line-requires c κs = subst (λ (w : Walked). Lined group (w .state .plan)) (sym (laws.first-is (c .before .before .before .before .before .before .before .before .before .args .bytes .now) _ _ (c .before .before .before .before .before .before .begin .ensures) (c .before .before .before .before .step .ensures))) (lined (c .before .before .before .before .before .before .before .before .before .args .bytes .now))
+line-requires c κs =
+    let args = c .before .before .before .before .before .before .before .before .before .args in
+    subst (λ (w : Walked). Lined group (w .state .plan))
+    (sym (laws.first-is (args .bytes .now) _ _ (c .before .before .before .before .before .before .begin .ensures)
+    (c .before .before .before .before .step .ensures))) (lined (args .bytes .now))
 
 returns-3 : tie.Need-returns-3
-returns-3 c = laws.view-behind (c .before .before .before .before .before .before .before .before .before .before .args .bytes .now) _ _ (c .before .before .before .before .before .before .before .begin .ensures) (c .before .before .before .before .before .step .ensures) group (c .before .before .before .before .before .before .before .before .before .before .args .k) (c .before .before .before .before .match .keys2) (c .before .before .before .match2 .keys2) _ (c .line .ensures)
+returns-3 c =
+    let args = c .before .before .before .before .before .before .before .before .before .before .args in
+    laws.view-behind (args .bytes .now) _ _ (c .before .before .before .before .before .before .before .begin .ensures)
+    (c .before .before .before .before .before .step .ensures) group (args .k) (c .before .before .before .before .match .keys2)
+    (c .before .before .before .match2 .keys2) _ (c .line .ensures)
 
 pub line-view-spec : {M : Type 1} → statement M
 line-view-spec =

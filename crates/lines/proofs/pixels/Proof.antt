@@ -23,13 +23,16 @@ part-result-end : tie.Need-part-result-end
 part-result-end c = search needs
 
 returns : tie.Need-returns
-returns c = views.pixels-none group (c .before .before .before .before .args .bytes .now) (c .before .before .before .before .args .k) _ (c .before .before .line-view .ensures) (c .before .match .keys2)
+returns c = views.pixels-none group (c .before .before .before .before .args .bytes .now) (c .before .before .before .before .args .k) _
+    (c .before .before .line-view .ensures) (c .before .match .keys2)
 
 mul-to : tie.Need-mul-to
-mul-to c = let h = laws.shown-within (c .before .before .before .before .before .args .bytes .now) (c .before .before .before .before .before .args .k) _ _ _ (sym (c .before .before .before .line-view .ensures) ∙ c .before .v .given .1) in search needs
+mul-to c = let h = laws.shown-within (c .before .before .before .before .before .args .bytes .now)
+    (c .before .before .before .before .before .args .k) _ _ _ (sym (c .before .before .before .line-view .ensures) ∙ c .before .v .given .1) in search needs
 
 add-to : tie.Need-add-to
-add-to c = let h = laws.shown-within (c .before .before .before .before .before .args .bytes .now) (c .before .before .before .before .before .args .k) _ _ _ (sym (c .before .before .before .line-view .ensures) ∙ c .before .v .given .1) in search needs
+add-to c = let h = laws.shown-within (c .before .before .before .before .before .args .bytes .now)
+    (c .before .before .before .before .before .args .k) _ _ _ (sym (c .before .before .before .line-view .ensures) ∙ c .before .v .given .1) in search needs
 
 sub-result-2 : tie.Need-sub-result-2
 sub-result-2 c = search needs
@@ -38,10 +41,13 @@ part-result-start-2 : tie.Need-part-result-start-2
 part-result-start-2 c = search needs
 
 part-result-end-2 : tie.Need-part-result-end-2
-part-result-end-2 c = laws.shown-within (c .before .before .before .before .before .args .bytes .now) (c .before .before .before .before .before .args .k) _ _ _ (sym (c .before .before .before .line-view .ensures) ∙ c .before .v .given .1)
+part-result-end-2 c = laws.shown-within (c .before .before .before .before .before .args .bytes .now)
+    (c .before .before .before .before .before .args .k) _ _ _ (sym (c .before .before .before .line-view .ensures) ∙ c .before .v .given .1)
 
 returns-2 : tie.Need-returns-2
-returns-2 c = views.pixels-shown group (c .before .before .before .before .before .before .args .bytes .now) (c .before .before .before .before .before .before .args .k) _ (c .before .before .before .before .line-view .ensures) _ _ _ (c .before .before .v .given .1)
+returns-2 c = views.pixels-shown group (c .before .before .before .before .before .before .args .bytes .now)
+    (c .before .before .before .before .before .before .args .k) _ (c .before .before .before .before .line-view .ensures) _ _ _
+    (c .before .before .v .given .1)
 
 pub pixels-spec : {M : Type 1} → statement M
 pixels-spec =

@@ -1,20 +1,16 @@
 -- The numbers of the definition, each read where it stands.
+use Prim.Native.Nat.{ℕ, _+_, _*_}
+use mathlib.Core.Path.{ap₂}
+use Rattle.plan.specs.Plan.{group}
+use Rattle.image.specs.declared.Fills.{Fills}
 use Rattle.lines.specs.View.{shownOf}
+use Rattle.lines.specs.declared.View.the-variants.{Shown}
 use borrow.Author.Needs.{needs}
 use Rattle.lines.proofs.shown.Statement.{statement}
 use Rattle.lines.proofs.shown.Tie as tie
 
-place-requires : tie.Need-place-requires
-place-requires c κs = search needs
-
-four-requires : tie.Need-four-requires
-four-requires c κs = search needs
-
-place-requires-2 : tie.Need-place-requires-2
-place-requires-2 c κs = search needs
-
-four-requires-2 : tie.Need-four-requires-2
-four-requires-2 c κs = search needs
+fills-of-requires : tie.Need-fills-of-requires
+fills-of-requires c κs = search needs
 
 pixels-from-requires : tie.Need-pixels-from-requires
 pixels-from-requires c κs = search needs
@@ -30,18 +26,10 @@ add-from-2 c = search needs
 
 returns : tie.Need-returns
 unfolding shownOf
-returns c = rw (← c .before .before .before .before .place .ensures, ← c .before .before .place2 .ensures, ← c .before .before .before .four .ensures .0, ← c .before .four2 .ensures .0, ← c .pixels-from .ensures .0)
+returns c = ap₂ (λ (f : Fills) (n : ℕ). Shown (c .before .before .before .before .args .start + n + group * f .left) (f .«data») (f .left))
+    (c .before .before .fills-of .ensures .0) (c .before .pixels-from .ensures .0)
 
 pub shown-spec : {M : Type 1} → statement M
 shown-spec =
     tie.close
-    (tie.spec
-    place-requires
-    four-requires
-    place-requires-2
-    four-requires-2
-    pixels-from-requires
-    add-from
-    mul-from
-    add-from-2
-    returns)
+    (tie.spec fills-of-requires pixels-from-requires add-from mul-from add-from-2 returns)

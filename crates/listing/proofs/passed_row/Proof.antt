@@ -1,43 +1,28 @@
--- The numbers of the definition, each read where it stands.
-use mathlib.Core.Path.{sym, _∙_}
+-- The numbers of the definition, each as the image's own reader of fills names it.
+use mathlib.Core.Path.{sym, ap, _∙_}
+use Rattle.image.specs.declared.Fills.{Fills}
+use Rattle.rows.specs.declared.Row.the-variants.{Line}
 use Rattle.listing.proofs.TurnLaws as laws
 use borrow.Author.Needs.{needs}
 use Rattle.listing.proofs.passed_row.Statement.{statement}
 use Rattle.listing.proofs.passed_row.Tie as tie
 
 returns : tie.Need-returns
-returns c = sym (laws.row-first (c .before .before .before .before .args .st) (c .before .before .before .before .args .after) (c .before .before .before .before .args .r .now) (c .before .if1 .taken))
+returns c = let args = c .before .before .before .before .args in sym (laws.row-first (args .st) (args .after) (args .r .now) (c .before .if1 .taken))
 
-place-requires : tie.Need-place-requires
-place-requires c κs = search needs
-
-four-requires : tie.Need-four-requires
-four-requires c κs = search needs
-
-place-requires-2 : tie.Need-place-requires-2
-place-requires-2 c κs = search needs
-
-four-requires-2 : tie.Need-four-requires-2
-four-requires-2 c κs = search needs
-
-place-requires-3 : tie.Need-place-requires-3
-place-requires-3 c κs = search needs
-
-four-requires-3 : tie.Need-four-requires-3
-four-requires-3 c κs = search needs
+fills-of-requires : tie.Need-fills-of-requires
+fills-of-requires c κs = search needs
 
 returns-2 : tie.Need-returns-2
-returns-2 c = sym (laws.row-line (c .before .before .before .before .before .before .before .before .before .args .st) (c .before .before .before .before .before .before .before .before .before .args .after) (c .before .before .before .before .before .before .before .before .before .args .r .now) (c .before .before .before .before .before .before .if1 .left) ∙ rw (← c .before .before .before .before .before .place .ensures, ← c .before .before .before .place2 .ensures, ← c .before .place3 .ensures, ← c .before .before .before .before .four .ensures .0, ← c .before .before .four2 .ensures .0, ← c .four3 .ensures .0))
+returns-2 c =
+    let args = c .before .before .before .before .args in
+    ap (λ (f : Fills). Line (args .st .passed) (f .left) (f .«data») (f .right)) (c .fills-of .ensures .0)
+    ∙ sym (laws.row-line (args .st) (args .after) (args .r .now) (c .before .if1 .left))
 
 pub passed-row-spec : {M : Type 1} → statement M
 passed-row-spec =
     tie.close
     (tie.spec
     returns
-    place-requires
-    four-requires
-    place-requires-2
-    four-requires-2
-    place-requires-3
-    four-requires-3
+    fills-of-requires
     returns-2)

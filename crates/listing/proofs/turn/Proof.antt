@@ -13,7 +13,8 @@ too-long-requires : tie.Need-too-long-requires
 too-long-requires c κs = search needs
 
 returns : tie.Need-returns
-returns c = laws.told-long (c .before .before .before .args .st) (c .before .before .before .args .held .now) (c .before .before .before .args .closed) (sym (c .before .too-long .ensures) ∙ c .if1 .taken)
+returns c = laws.told-long (c .before .before .before .args .st) (c .before .before .before .args .held .now) (c .before .before .before .args .closed)
+    (sym (c .before .too-long .ensures) ∙ c .if1 .taken)
 
 step-requires : tie.Need-step-requires
 step-requires c κs = search needs
@@ -40,16 +41,31 @@ enum-known-stop-2 : tie.Need-enum-known-stop-2
 enum-known-stop-2 c = search needs
 
 returns-2 : tie.Need-returns-2
-returns-2 c = laws.told-say (c .before .before .before .before .before .before .before .before .before .args .st) (c .before .before .before .before .before .before .before .before .before .args .held .now) (c .before .before .before .before .before .before .before .before .before .args .closed) _ (sym (c .before .before .before .before .before .before .before .too-long .ensures) ∙ c .before .before .before .before .before .before .if1 .left) (c .before .before .before .before .before .step .ensures) _ _ (c .before .before .stop .given .1) (ap Want (c .want .ensures))
+returns-2 c =
+    let args = c .before .before .before .before .before .before .before .before .before .args in
+    laws.told-say (args .st) (args .held .now) (args .closed) _ (sym (c .before .before .before .before .before .before .before .too-long .ensures)
+    ∙ c .before .before .before .before .before .before .if1 .left) (c .before .before .before .before .before .step .ensures) _ _
+    (c .before .before .stop .given .1) (ap Want (c .want .ensures))
 
 returns-3 : tie.Need-returns-3
-returns-3 c = laws.told-say (c .before .before .before .before .before .before .before .before .args .st) (c .before .before .before .before .before .before .before .before .args .held .now) (c .before .before .before .before .before .before .before .before .args .closed) _ (sym (c .before .before .before .before .before .before .too-long .ensures) ∙ c .before .before .before .before .before .if1 .left) (c .before .before .before .before .step .ensures) _ _ (c .before .enum-told .given .1) (ap Next (c .passed-row .ensures))
+returns-3 c =
+    let args = c .before .before .before .before .before .before .before .before .args in
+    laws.told-say (args .st) (args .held .now) (args .closed) _ (sym (c .before .before .before .before .before .before .too-long .ensures)
+    ∙ c .before .before .before .before .before .if1 .left) (c .before .before .before .before .step .ensures) _ _ (c .before .enum-told .given .1)
+    (ap Next (c .passed-row .ensures))
 
 returns-4 : tie.Need-returns-4
-returns-4 c = laws.told-say (c .before .before .before .before .before .before .before .before .args .st) (c .before .before .before .before .before .before .before .before .args .held .now) (c .before .before .before .before .before .before .before .before .args .closed) _ (sym (c .before .before .before .before .before .before .too-long .ensures) ∙ c .before .before .before .before .before .if1 .left) (c .before .before .before .before .step .ensures) _ _ (c .before .enum-told2 .given .1) (ap (λ (n : ℕ). Last (Complete (c .before .before .before .before .step .result .state .passed) n)) (c .start .ensures))
+returns-4 c =
+    let args = c .before .before .before .before .before .before .before .before .args in
+    laws.told-say (args .st) (args .held .now) (args .closed) _ (sym (c .before .before .before .before .before .before .too-long .ensures)
+    ∙ c .before .before .before .before .before .if1 .left) (c .before .before .before .before .step .ensures) _ _ (c .before .enum-told2 .given .1)
+    (ap (λ (n : ℕ). Last (Complete (c .before .before .before .before .step .result .state .passed) n)) (c .start .ensures))
 
 returns-5 : tie.Need-returns-5
-returns-5 c = laws.told-say (c .before .before .before .before .before .before .before .before .args .st) (c .before .before .before .before .before .before .before .before .args .held .now) (c .before .before .before .before .before .before .before .before .args .closed) _ (sym (c .before .before .before .before .before .before .too-long .ensures) ∙ c .before .before .before .before .before .if1 .left) (c .before .before .before .before .step .ensures) _ _ (c .before .stop2 .given .1) refl
+returns-5 c =
+    let args = c .before .before .before .before .before .before .before .before .args in
+    laws.told-say (args .st) (args .held .now) (args .closed) _ (sym (c .before .before .before .before .before .before .too-long .ensures)
+    ∙ c .before .before .before .before .before .if1 .left) (c .before .before .before .before .step .ensures) _ _ (c .before .stop2 .given .1) refl
 
 pub turn-spec : {M : Type 1} → statement M
 turn-spec =

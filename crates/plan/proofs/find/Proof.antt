@@ -4,16 +4,18 @@ use mathlib.Core.Path.{_≡_, refl, sym, _∙_}
 use native.Mathlib.Omega.{arith}
 use borrow.Author.Needs.{needs}
 use lib.ListN.{length, drop}
+use Rattle.plan.specs.Tables.{rows}
 use Rattle.plan.specs.Plan.{spotFrom, Small}
 use Rattle.plan.proofs.RunLaws as laws
 use Rattle.plan.proofs.find.Statement.{statement}
 use Rattle.plan.proofs.find.Tie as tie
 
 abbrev Inv-loop : tie.InvT-loop
-Inv-loop k at counts lengths i₀ left₀ start₀ i left start = (i ≤ 17) × (start ≤ 720 + i * 999998000001) × (length counts ≡ 17) × (length lengths ≡ 17) × Small counts lengths × (spotFrom 1 counts lengths k at ≡ spotFrom (i + 1) (drop i counts) (drop i lengths) left start)
+Inv-loop k at counts lengths i₀ left₀ start₀ i left start = (i ≤ rows) × (start ≤ 720 + i * 999998000001) × (length counts ≡ rows) ×
+    (length lengths ≡ rows) × Small counts lengths × (spotFrom 1 counts lengths k at ≡ spotFrom (i + 1) (drop i counts) (drop i lengths) left start)
 
 abbrev μ-loop : tie.MeasureT-loop
-μ-loop k at counts lengths i₀ left₀ start₀ i left start = 17 - i
+μ-loop k at counts lengths i₀ left₀ start₀ i left start = rows - i
 
 loop-holds : tie.Need-loop-holds Inv-loop μ-loop
 loop-holds c = (omega arith, omega arith, search needs, search needs, c .pre .0, refl)
@@ -34,17 +36,20 @@ add-t20 : tie.Need-add-t20 Inv-loop μ-loop
 add-t20 c = search needs
 
 mul-t21 : tie.Need-mul-t21 Inv-loop μ-loop
-mul-t21 c = let l = c .before .before .loop in omega (arith, laws.run-small (l .left) (l .i) (c .before .before .before .args .t1) (c .before .before .before .args .t2) (l .inv .4) (omega arith) (omega arith))
+mul-t21 c = let l = c .before .before .loop in omega
+    (arith, laws.run-small (l .left) (l .i) (c .before .before .before .args .t1) (c .before .before .before .args .t2) (l .inv .4) (omega arith) (omega arith))
 
 add-t22 : tie.Need-add-t22 Inv-loop μ-loop
-add-t22 c = let l = c .before .before .loop in omega (arith, laws.run-small (l .left) (l .i) (c .before .before .before .args .t1) (c .before .before .before .args .t2) (l .inv .4) (omega arith) (omega arith))
+add-t22 c = let l = c .before .before .loop in omega
+    (arith, laws.run-small (l .left) (l .i) (c .before .before .before .args .t1) (c .before .before .before .args .t2) (l .inv .4) (omega arith) (omega arith))
 
 returns : tie.Need-returns Inv-loop μ-loop
 returns c =
     let l = c .before .before .loop in
     let s = l .inv .4 in
     let a = laws.run-small (l .left) (l .i) (c .before .before .before .args .t1) (c .before .before .before .args .t2) s (omega arith) (omega arith) in (
-      sym (l .inv .5 ∙ laws.spot-here (l .i) (l .left) (l .start) (c .before .before .before .args .t1) (c .before .before .before .args .t2) (omega arith) (omega arith) (c .if1 .taken)),
+      sym (l .inv .5 ∙ laws.spot-here (l .i) (l .left) (l .start) (c .before .before .before .args .t1) (c .before .before .before .args .t2) (omega arith)
+          (omega arith) (c .if1 .taken)),
       record { run = omega arith; length = s .short (l .i) (omega arith); start = omega arith },
     )
 
@@ -62,16 +67,26 @@ loop-less c = search needs
 
 loop-again : tie.Need-loop-again Inv-loop μ-loop
 loop-again c =
-    let l = c .before .before .loop in
-    (omega arith, omega (arith, l .inv .4 .area (l .i) (omega arith)), l .inv .2, l .inv .3, l .inv .4, l .inv .5 ∙ laws.spot-next (l .i) (l .left) (l .start) (c .before .before .before .args .t1) (c .before .before .before .args .t2) (omega arith) (omega arith) (c .if1 .left))
+    let l = c .before .before .loop in (
+      omega arith,
+      omega (arith, l .inv .4 .area (l .i) (omega arith)),
+      l .inv .2,
+      l .inv .3,
+      l .inv .4,
+      l .inv .5
+          ∙ laws.spot-next (l .i) (l .left) (l .start) (c .before .before .before .args .t1) (c .before .before .before .args .t2) (omega arith)
+          (omega arith) (c .if1 .left),
+    )
 
 add-t24 : tie.Need-add-t24 Inv-loop μ-loop
 add-t24 c = search needs
 
 returns-2 : tie.Need-returns-2 Inv-loop μ-loop
 returns-2 c =
-    let l = c .before .loop in
-    (sym (l .inv .5 ∙ laws.spot-end (l .i) (l .left) (l .start) (c .before .before .args .t1) (c .before .before .args .t2) (omega arith)), record { run = omega arith; length = omega arith; start = omega arith })
+    let l = c .before .loop in (
+      sym (l .inv .5 ∙ laws.spot-end (l .i) (l .left) (l .start) (c .before .before .args .t1) (c .before .before .args .t2) (omega arith)),
+      record { run = omega arith; length = omega arith; start = omega arith },
+    )
 
 pub find-spec : {M : Type 1} → statement M
 find-spec =

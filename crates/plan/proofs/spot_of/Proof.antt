@@ -27,10 +27,25 @@ sub-find : tie.Need-sub-find
 sub-find c = search needs
 
 find-requires : tie.Need-find-requires
-find-requires c κs = (subst₂ Small (sym (c .before .before .runs-of .ensures .0)) (sym (c .before .before .runs-of .ensures .1)) (c .before .before .before .before .before .pre), omega (arith, c .before .before .before .before .first-length .ensures, laws.first-bound (c .before .before .before .before .before .args .kind)))
+find-requires c κs = (
+  subst₂ Small (sym (c .before .before .runs-of .ensures .0)) (sym (c .before .before .runs-of .ensures .1))
+      (c .before .before .before .before .before .pre),
+  omega
+      (arith, c .before .before .before .before .first-length .ensures, laws.first-bound (c .before .before .before .before .before .args .kind)),
+)
 
 returns-2 : tie.Need-returns-2
-returns-2 c = (c .find .ensures .0 ∙ (rw (c .before .before .before .runs-of .ensures .0, c .before .before .before .runs-of .ensures .1, c .before .before .before .before .before .first-length .ensures)) ∙ sym (laws.spot-later (c .before .before .before .before .before .before .args .kind) (c .before .before .before .before .before .before .args .p) (c .before .before .before .before .before .before .args .k) (c .before .before .before .before .if1 .left)), c .find .ensures .1)
+returns-2 c = (
+  c .find .ensures .0
+      ∙ (rw (
+        c .before .before .before .runs-of .ensures .0,
+        c .before .before .before .runs-of .ensures .1,
+        c .before .before .before .before .before .first-length .ensures,
+      ))
+      ∙ sym (laws.spot-later (c .before .before .before .before .before .before .args .kind) (c .before .before .before .before .before .before .args .p)
+      (c .before .before .before .before .before .before .args .k) (c .before .before .before .before .if1 .left)),
+  c .find .ensures .1,
+)
 
 pub spot-of-spec : {M : Type 1} → statement M
 spot-of-spec =

@@ -1,6 +1,8 @@
 -- Each row's words and numbers, one behind the other.
-use mathlib.Core.List.{[]}
+use mathlib.Core.List.{[], _∷_, _++_}
 use native.Mathlib.Omega.{arith}
+use Rattle.decimal.specs.Text.{bytes}
+use Rattle.writing.proofs.WrittenLaws.{stands, stays-later as later}
 use Rattle.rows.proofs.TextLaws as laws
 use borrow.Author.Needs.{needs}
 use Rattle.rows.proofs.spell.Statement.{statement}
@@ -21,11 +23,11 @@ slice-aggregate-part-2 c = search needs
 part-requires-2 : tie.Need-part-requires-2
 part-requires-2 c κs = search needs
 
-slice-aggregate-put : tie.Need-slice-aggregate-put
-slice-aggregate-put c = search needs
+slice-aggregate-text : tie.Need-slice-aggregate-text
+slice-aggregate-text c = search needs
 
-put-requires : tie.Need-put-requires
-put-requires c κs = search needs
+text-requires : tie.Need-text-requires
+text-requires c κs = search needs
 
 enum-known-row-2 : tie.Need-enum-known-row-2
 enum-known-row-2 c = search needs
@@ -54,20 +56,20 @@ slice-aggregate-part-6 c = search needs
 part-requires-6 : tie.Need-part-requires-6
 part-requires-6 c κs = search needs
 
-slice-aggregate-put-2 : tie.Need-slice-aggregate-put-2
-slice-aggregate-put-2 c = search needs
+slice-aggregate-text-2 : tie.Need-slice-aggregate-text-2
+slice-aggregate-text-2 c = search needs
 
-put-requires-2 : tie.Need-put-requires-2
-put-requires-2 c κs = search needs
+text-requires-2 : tie.Need-text-requires-2
+text-requires-2 c κs = search needs
 
 enum-told : tie.Need-enum-told
 enum-told c = search needs
 
-slice-aggregate-put-3 : tie.Need-slice-aggregate-put-3
-slice-aggregate-put-3 c = search needs
+slice-aggregate-text-3 : tie.Need-slice-aggregate-text-3
+slice-aggregate-text-3 c = search needs
 
-put-requires-3 : tie.Need-put-requires-3
-put-requires-3 c κs = search needs
+text-requires-3 : tie.Need-text-requires-3
+text-requires-3 c κs = search needs
 
 enum-known-row-3 : tie.Need-enum-known-row-3
 enum-known-row-3 c = search needs
@@ -84,11 +86,11 @@ slice-aggregate-part-8 c = search needs
 part-requires-8 : tie.Need-part-requires-8
 part-requires-8 c κs = search needs
 
-slice-aggregate-put-4 : tie.Need-slice-aggregate-put-4
-slice-aggregate-put-4 c = search needs
+slice-aggregate-text-4 : tie.Need-slice-aggregate-text-4
+slice-aggregate-text-4 c = search needs
 
-put-requires-4 : tie.Need-put-requires-4
-put-requires-4 c κs = search needs
+text-requires-4 : tie.Need-text-requires-4
+text-requires-4 c κs = search needs
 
 enum-known-row-4 : tie.Need-enum-known-row-4
 enum-known-row-4 c = search needs
@@ -111,26 +113,82 @@ slice-aggregate-part-11 c = search needs
 part-requires-11 : tie.Need-part-requires-11
 part-requires-11 c κs = search needs
 
-slice-aggregate-put-5 : tie.Need-slice-aggregate-put-5
-slice-aggregate-put-5 c = search needs
+slice-aggregate-text-5 : tie.Need-slice-aggregate-text-5
+slice-aggregate-text-5 c = search needs
 
-put-requires-5 : tie.Need-put-requires-5
-put-requires-5 c κs = search needs
+text-requires-5 : tie.Need-text-requires-5
+text-requires-5 c κs = search needs
 
 returns : tie.Need-returns
-returns c = (laws.text-image _ _ _ _ [] [] _ _ (c .before .before .before .before .before .before .before .before .before .before .row .given .1) (c .before .before .before .before .before .before .part .ensures .0) (c .before .before .before .part2 .ensures .0) (c .put .ensures .0), (laws.stays-later (c .before .before .before .part2 .result) (c .put .result) _ _ _ (omega (arith, c .put .ensures .1 .0)) (c .put .ensures .1 .1 .1) (laws.stays-later _ _ _ _ _ (c .before .before .before .part2 .ensures .1 .1 .0) (c .before .before .before .part2 .ensures .1 .1 .1) (c .before .before .before .before .before .before .part .ensures .1 .1 .1)), laws.counted _ _ (c .put .ensures .1 .1 .0)))
+returns c =
+    let one = c .before .before .before .before .before .before .part .ensures in
+    let two = c .before .before .before .part2 .ensures in
+    let end = stands _ _ _ (search needs) _ _ (c .text .ensures .0) (c .text .ensures .1) in (
+      laws.text-image _ _ _ _ [] [] _ _ (c .before .before .before .before .before .before .before .before .before .before .row .given .1) (one .0)
+          (two .0) (end .0),
+      (
+        later (c .before .before .before .part2 .result) (c .text .result) _ _ _ (omega (arith, end .1 .0)) (end .1 .1 .1)
+            (later _ _ _ _ _ (two .1 .1 .0) (two .1 .1 .1) (one .1 .1 .1)),
+        laws.counted _ _ (end .1 .1 .0),
+      ),
+    )
 
 returns-2 : tie.Need-returns-2
-returns-2 c = (laws.text-line _ _ _ _ _ _ _ _ _ _ (c .before .before .before .before .before .before .before .before .before .before .before .before .before .before .before .before .row2 .given .1) (c .before .before .before .before .before .before .before .before .before .before .before .before .part3 .ensures .0) (c .before .before .before .before .before .before .before .before .before .part4 .ensures .0) (c .before .before .before .before .before .before .part5 .ensures .0) (c .before .before .before .part6 .ensures .0) (c .put2 .ensures .0), (laws.stays-later (c .before .before .before .part6 .result) (c .put2 .result) _ _ _ (omega (arith, c .put2 .ensures .1 .0)) (c .put2 .ensures .1 .1 .1) (laws.stays-later _ _ _ _ _ (c .before .before .before .part6 .ensures .1 .1 .0) (c .before .before .before .part6 .ensures .1 .1 .1) (laws.stays-later _ _ _ _ _ (c .before .before .before .before .before .before .part5 .ensures .1 .1 .0) (c .before .before .before .before .before .before .part5 .ensures .1 .1 .1) (laws.stays-later _ _ _ _ _ (c .before .before .before .before .before .before .before .before .before .part4 .ensures .1 .1 .0) (c .before .before .before .before .before .before .before .before .before .part4 .ensures .1 .1 .1) (c .before .before .before .before .before .before .before .before .before .before .before .before .part3 .ensures .1 .1 .1)))), laws.counted _ _ (c .put2 .ensures .1 .1 .0)))
+returns-2 c =
+    let one = c .before .before .before .before .before .before .before .before .before .before .before .before .part3 .ensures in
+    let two = c .before .before .before .before .before .before .before .before .before .part4 .ensures in
+    let three = c .before .before .before .before .before .before .part5 .ensures in
+    let four = c .before .before .before .part6 .ensures in
+    let end = stands _ _ _ (search needs) _ _ (c .text2 .ensures .0) (c .text2 .ensures .1) in
+    let behind = later _ _ _ _ _ (three .1 .1 .0) (three .1 .1 .1) (later _ _ _ _ _ (two .1 .1 .0) (two .1 .1 .1) (one .1 .1 .1)) in (
+      laws.text-line _ _ _ _ _ _ _ _ _ _
+          (c .before .before .before .before .before .before .before .before .before .before .before .before .before .before .before .before .row2 .given .1)
+          (one .0) (two .0) (three .0) (four .0) (end .0),
+      (
+        later (c .before .before .before .part6 .result) (c .text2 .result) _ _ _ (omega (arith, end .1 .0)) (end .1 .1 .1)
+            (later _ _ _ _ _ (four .1 .1 .0) (four .1 .1 .1) behind),
+        laws.counted _ _ (end .1 .1 .0),
+      ),
+    )
 
 returns-3 : tie.Need-returns-3
-returns-3 c = (laws.text-long _ _ [] [] [] [] (c .before .before .before .enum-told .given .1) (c .put3 .ensures .0), (c .put3 .ensures .1 .1 .1, laws.counted _ _ (c .put3 .ensures .1 .1 .0)))
+returns-3 c =
+    let end = stands (c .before .before .before .before .before .args .line .now) 0 (bytes "RECORD TOO LONG" ++ (10 ∷ [])) (search needs) _ _
+    (c .text3 .ensures .0) (c .text3 .ensures .1) in (
+      laws.text-long _ _ [] [] [] [] (c .before .before .before .enum-told .given .1) (end .0),
+      (end .1 .1 .1, laws.counted _ _ (end .1 .1 .0)),
+    )
 
 returns-4 : tie.Need-returns-4
-returns-4 c = (laws.text-complete _ _ _ _ [] [] _ _ (c .before .before .before .before .before .before .before .before .before .before .row3 .given .1) (c .before .before .before .before .before .before .part7 .ensures .0) (c .before .before .before .part8 .ensures .0) (c .put4 .ensures .0), (laws.stays-later (c .before .before .before .part8 .result) (c .put4 .result) _ _ _ (omega (arith, c .put4 .ensures .1 .0)) (c .put4 .ensures .1 .1 .1) (laws.stays-later _ _ _ _ _ (c .before .before .before .part8 .ensures .1 .1 .0) (c .before .before .before .part8 .ensures .1 .1 .1) (c .before .before .before .before .before .before .part7 .ensures .1 .1 .1)), laws.counted _ _ (c .put4 .ensures .1 .1 .0)))
+returns-4 c =
+    let one = c .before .before .before .before .before .before .part7 .ensures in
+    let two = c .before .before .before .part8 .ensures in
+    let end = stands _ _ _ (search needs) _ _ (c .text4 .ensures .0) (c .text4 .ensures .1) in (
+      laws.text-complete _ _ _ _ [] [] _ _ (c .before .before .before .before .before .before .before .before .before .before .row3 .given .1) (one .0)
+          (two .0) (end .0),
+      (
+        later (c .before .before .before .part8 .result) (c .text4 .result) _ _ _ (omega (arith, end .1 .0)) (end .1 .1 .1)
+            (later _ _ _ _ _ (two .1 .1 .0) (two .1 .1 .1) (one .1 .1 .1)),
+        laws.counted _ _ (end .1 .1 .0),
+      ),
+    )
 
 returns-5 : tie.Need-returns-5
-returns-5 c = (laws.text-refused _ _ _ _ _ [] _ (c .before .before .before .before .before .before .before .before .before .before .before .before .before .row4 .given .1) (c .before .before .before .before .before .before .before .before .before .part9 .ensures .0) (c .before .before .before .before .before .before .part10 .ensures .0) (c .before .before .before .part11 .ensures .0) (c .put5 .ensures .0), (laws.stays-later (c .before .before .before .part11 .result) (c .put5 .result) _ _ _ (omega (arith, c .put5 .ensures .1 .0)) (c .put5 .ensures .1 .1 .1) (laws.stays-later _ _ _ _ _ (c .before .before .before .part11 .ensures .1 .1 .0) (c .before .before .before .part11 .ensures .1 .1 .1) (laws.stays-later _ _ _ _ _ (c .before .before .before .before .before .before .part10 .ensures .1 .1 .0) (c .before .before .before .before .before .before .part10 .ensures .1 .1 .1) (c .before .before .before .before .before .before .before .before .before .part9 .ensures .1 .1 .1))), laws.counted _ _ (c .put5 .ensures .1 .1 .0)))
+returns-5 c =
+    let one = c .before .before .before .before .before .before .before .before .before .part9 .ensures in
+    let two = c .before .before .before .before .before .before .part10 .ensures in
+    let three = c .before .before .before .part11 .ensures in
+    let end = stands _ _ _ (search needs) _ _ (c .text5 .ensures .0) (c .text5 .ensures .1) in
+    let behind = later _ _ _ _ _ (two .1 .1 .0) (two .1 .1 .1) (one .1 .1 .1) in (
+      laws.text-refused _ _ _ _ _ [] _
+          (c .before .before .before .before .before .before .before .before .before .before .before .before .before .row4 .given .1) (one .0) (two .0)
+          (three .0) (end .0),
+      (
+        later (c .before .before .before .part11 .result) (c .text5 .result) _ _ _ (omega (arith, end .1 .0)) (end .1 .1 .1)
+            (later _ _ _ _ _ (three .1 .1 .0) (three .1 .1 .1) behind),
+        laws.counted _ _ (end .1 .1 .0),
+      ),
+    )
 
 pub spell-spec : {M : Type 1} → statement M
 spell-spec =
@@ -141,8 +199,8 @@ spell-spec =
     part-requires
     slice-aggregate-part-2
     part-requires-2
-    slice-aggregate-put
-    put-requires
+    slice-aggregate-text
+    text-requires
     enum-known-row-2
     slice-aggregate-part-3
     part-requires-3
@@ -152,18 +210,18 @@ spell-spec =
     part-requires-5
     slice-aggregate-part-6
     part-requires-6
-    slice-aggregate-put-2
-    put-requires-2
+    slice-aggregate-text-2
+    text-requires-2
     enum-told
-    slice-aggregate-put-3
-    put-requires-3
+    slice-aggregate-text-3
+    text-requires-3
     enum-known-row-3
     slice-aggregate-part-7
     part-requires-7
     slice-aggregate-part-8
     part-requires-8
-    slice-aggregate-put-4
-    put-requires-4
+    slice-aggregate-text-4
+    text-requires-4
     enum-known-row-4
     slice-aggregate-part-9
     part-requires-9
@@ -171,8 +229,8 @@ spell-spec =
     part-requires-10
     slice-aggregate-part-11
     part-requires-11
-    slice-aggregate-put-5
-    put-requires-5
+    slice-aggregate-text-5
+    text-requires-5
     returns
     returns-2
     returns-3

@@ -22,7 +22,10 @@ enum-known-stop : tie.Need-enum-known-stop
 enum-known-stop c = search needs
 
 returns : tie.Need-returns
-returns c = laws.set-refused (c .before .before .before .before .before .before .before .before .before .args .directory .now) (c .before .before .before .before .before .before .before .before .before .args .counts .now) _ _ (c .before .before .before .before .before .begin .ensures) (c .before .before .before .walk .ensures) _ (c .before .stop .given .1)
+returns c =
+    let args = c .before .before .before .before .before .before .before .before .before .args in
+    laws.set-refused (args .directory .now) (args .counts .now) _ _ (c .before .before .before .before .before .begin .ensures)
+    (c .before .before .before .walk .ensures) _ (c .before .stop .given .1)
 
 place-requires : tie.Need-place-requires
 place-requires c κs = search needs
@@ -31,13 +34,31 @@ differing-requires : tie.Need-differing-requires
 differing-requires c κs = search needs
 
 returns-2 : tie.Need-returns-2
-returns-2 c = c .differing .ensures ∙ ap differs (c .before .place .ensures) ∙ laws.set-length (c .before .before .before .before .before .before .before .before .before .before .before .before .before .args .directory .now) (c .before .before .before .before .before .before .before .before .before .before .before .before .before .args .counts .now) _ _ (c .before .before .before .before .before .before .before .before .before .begin .ensures) (c .before .before .before .before .before .before .before .walk .ensures) (c .before .before .before .before .before .before .match .keys2) (c .before .before .if1 .taken)
+returns-2 c =
+    let args = c .before .before .before .before .before .before .before .before .before .before .before .before .before .args in
+    c .differing .ensures ∙ ap differs (c .before .place .ensures)
+    ∙ laws.set-length (args .directory .now) (args .counts .now) _ _
+    (c .before .before .before .before .before .before .before .before .before .begin .ensures)
+    (c .before .before .before .before .before .before .before .walk .ensures) (c .before .before .before .before .before .before .match .keys2)
+    (c .before .before .if1 .taken)
 
 compare-requires : tie.Need-compare-requires
-compare-requires c κs = omega (arith, c .if1 .left, subst (λ (w : Walked). w .state .plan .pointers ≤ 6) (sym (laws.walk-is (c .before .before .before .before .before .before .before .before .before .before .before .args .directory .now) (c .before .before .before .before .before .before .before .before .before .before .before .args .counts .now) _ _ (c .before .before .before .before .before .before .before .begin .ensures) (c .before .before .before .before .before .walk .ensures))) (laws.few-pointers (c .before .before .before .before .before .before .before .before .before .before .before .args .directory .now)))
+compare-requires c κs =
+    let args = c .before .before .before .before .before .before .before .before .before .before .before .args in
+    omega (
+      arith,
+      c .if1 .left,
+      subst (λ (w : Walked). w .state .plan .pointers ≤ 6)
+          (sym (laws.walk-is (args .directory .now) (args .counts .now) _ _ (c .before .before .before .before .before .before .before .begin .ensures)
+          (c .before .before .before .before .before .walk .ensures))) (laws.few-pointers (args .directory .now)),
+    )
 
 returns-3 : tie.Need-returns-3
-returns-3 c = c .compare .ensures ∙ laws.set-compare (c .before .before .before .before .before .before .before .before .before .before .before .before .args .directory .now) (c .before .before .before .before .before .before .before .before .before .before .before .before .args .counts .now) _ _ (c .before .before .before .before .before .before .before .before .begin .ensures) (c .before .before .before .before .before .before .walk .ensures) (c .before .before .before .before .before .match .keys2) (c .before .if1 .left)
+returns-3 c =
+    let args = c .before .before .before .before .before .before .before .before .before .before .before .before .args in
+    c .compare .ensures ∙ laws.set-compare (args .directory .now) (args .counts .now) _ _
+    (c .before .before .before .before .before .before .before .before .begin .ensures)
+    (c .before .before .before .before .before .before .walk .ensures) (c .before .before .before .before .before .match .keys2) (c .before .if1 .left)
 
 pub check-spec : {M : Type 1} → statement M
 check-spec =

@@ -34,8 +34,8 @@ mul-if1 c = search needs
 shared-slice-read-if1 : tie.Need-shared-slice-read-if1 Inv-loop μ-loop
 shared-slice-read-if1 c = search needs
 
-number-at-requires : tie.Need-number-at-requires Inv-loop μ-loop
-number-at-requires c κs = search needs
+count-at-requires : tie.Need-count-at-requires Inv-loop μ-loop
+count-at-requires c κs = search needs
 
 place-requires : tie.Need-place-requires Inv-loop μ-loop
 place-requires c κs = search needs
@@ -45,7 +45,13 @@ differing-requires c κs = search needs
 
 returns : tie.Need-returns Inv-loop μ-loop
 unfolding countOf
-returns c = c .differing .ensures ∙ ap differs (c .before .place .ensures) ∙ laws.compare-differs (c .before .before .before .before .before .before .before .before .before .args .directory .now) (c .before .before .before .before .before .before .before .before .before .args .counts .now) (c .before .before .before .before .before .before .loop .i) (c .before .before .before .before .before .before .loop .i + 1) (c .before .before .before .before .before .loop-test .taken) (λ e. c .before .before .if1 .taken (e ∙ sym (c .before .before .before .number-at .ensures))) ∙ sym (c .before .before .before .before .before .before .loop .inv .1)
+returns c =
+    let args = c .before .before .before .before .before .before .before .before .before .args in
+    c .differing .ensures ∙ ap differs (c .before .place .ensures)
+    ∙ laws.compare-differs (args .directory .now) (args .counts .now) (c .before .before .before .before .before .before .loop .i)
+    (c .before .before .before .before .before .before .loop .i + 1) (c .before .before .before .before .before .loop-test .taken)
+    (λ e. c .before .before .if1 .taken (e ∙ sym (c .before .before .before .count-at .ensures)))
+    ∙ sym (c .before .before .before .before .before .before .loop .inv .1)
 
 add-i : tie.Need-add-i Inv-loop μ-loop
 add-i c = search needs
@@ -55,11 +61,19 @@ loop-less c = search needs
 
 loop-again : tie.Need-loop-again Inv-loop μ-loop
 unfolding countOf
-loop-again c = (search needs, c .before .before .before .before .loop .inv .1 ∙ laws.compare-same (c .before .before .before .before .before .before .before .args .directory .now) (c .before .before .before .before .before .before .before .args .counts .now) (c .before .before .before .before .loop .i) (c .before .before .before .before .loop .i + 1) (c .before .before .before .loop-test .taken) (c .if1 .left ∙ c .before .number-at .ensures))
+loop-again c = (
+  search needs,
+  c .before .before .before .before .loop .inv .1
+      ∙ laws.compare-same (c .before .before .before .before .before .before .before .args .directory .now)
+      (c .before .before .before .before .before .before .before .args .counts .now) (c .before .before .before .before .loop .i)
+      (c .before .before .before .before .loop .i + 1) (c .before .before .before .loop-test .taken) (c .if1 .left ∙ c .before .count-at .ensures),
+)
 
 returns-2 : tie.Need-returns-2 Inv-loop μ-loop
 unfolding compareFrom
-returns-2 c = sym (c .before .loop .inv .1 ∙ laws.compare-end (c .before .before .before .before .args .directory .now) (c .before .before .before .before .args .counts .now) (c .before .loop .i) (c .before .loop .i + 1) (c .loop-test .left))
+returns-2 c = sym (c .before .loop .inv .1
+    ∙ laws.compare-end (c .before .before .before .before .args .directory .now) (c .before .before .before .before .args .counts .now)
+    (c .before .loop .i) (c .before .loop .i + 1) (c .loop-test .left))
 
 pub compare-spec : {M : Type 1} → statement M
 compare-spec =
@@ -73,7 +87,7 @@ compare-spec =
     add-byte-2
     mul-if1
     shared-slice-read-if1
-    number-at-requires
+    count-at-requires
     place-requires
     differing-requires
     returns

@@ -25,7 +25,9 @@ within-requires-3 : tie.Need-within-requires-3
 within-requires-3 c κs = search needs
 
 slice-aggregate-listed-field : tie.Need-slice-aggregate-listed-field
-slice-aggregate-listed-field c = sym (length-take-le _ (c .before .before .before .before .before .before .before .before .before .before .args .held .now) (omega arith))
+slice-aggregate-listed-field c =
+    let args = c .before .before .before .before .before .before .before .before .before .before .args in
+    sym (length-take-le _ (args .held .now) (omega arith))
 
 listed-field-requires : tie.Need-listed-field-requires
 listed-field-requires c κs = search needs
@@ -34,7 +36,9 @@ say-field-requires : tie.Need-say-field-requires
 say-field-requires c κs = search needs
 
 slice-aggregate-field-at : tie.Need-slice-aggregate-field-at
-slice-aggregate-field-at c = sym (length-take-le _ (c .before .before .before .before .before .before .before .before .before .before .before .args .held .now) (omega arith))
+slice-aggregate-field-at c =
+    let args = c .before .before .before .before .before .before .before .before .before .before .before .args in
+    sym (length-take-le _ (args .held .now) (omega arith))
 
 form-of-requires : tie.Need-form-of-requires
 form-of-requires c κs = search needs
@@ -46,7 +50,9 @@ say-field-requires-2 : tie.Need-say-field-requires-2
 say-field-requires-2 c κs = search needs
 
 slice-aggregate-two : tie.Need-slice-aggregate-two
-slice-aggregate-two c = sym (length-take-le _ (c .before .before .before .before .before .before .before .before .before .before .before .before .args .held .now) (omega arith))
+slice-aggregate-two c =
+    let args = c .before .before .before .before .before .before .before .before .before .before .before .before .args in
+    sym (length-take-le _ (args .held .now) (omega arith))
 
 two-requires : tie.Need-two-requires
 two-requires c κs = search needs
@@ -55,7 +61,9 @@ say-word-requires : tie.Need-say-word-requires
 say-word-requires c κs = search needs
 
 slice-aggregate-four : tie.Need-slice-aggregate-four
-slice-aggregate-four c = sym (length-take-le _ (c .before .before .before .before .before .before .before .before .before .before .before .before .before .args .held .now) (omega arith))
+slice-aggregate-four c =
+    let args = c .before .before .before .before .before .before .before .before .before .before .before .before .before .args in
+    sym (length-take-le _ (args .held .now) (omega arith))
 
 four-requires : tie.Need-four-requires
 four-requires c κs = search needs

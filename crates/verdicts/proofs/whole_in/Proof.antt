@@ -17,7 +17,9 @@ within-requires : tie.Need-within-requires
 within-requires c κs = search needs
 
 returns-2 : tie.Need-returns-2
-returns-2 c = c .within .ensures ∙ laws.natural-in _ (c .before .before .args .v) (toZ-ofZ (c .before .before .fits .v)) (c .before .before .args .lo) (c .before .before .args .hi) (c .before .if1 .left)
+returns-2 c = c .within .ensures
+    ∙ laws.natural-in _ (c .before .before .args .v) (toZ-ofZ (c .before .before .fits .v)) (c .before .before .args .lo) (c .before .before .args .hi)
+    (c .before .if1 .left)
 
 pub whole-in-spec : {M : Type 1} → statement M
 whole-in-spec = tie.close (tie.spec returns cast-within within-requires returns-2)

@@ -25,7 +25,12 @@ cast-front-2 : tie.Need-cast-front-2
 cast-front-2 c = omega (arith, c .shared-slice-known2 .given (c .before .before .args .at + 1))
 
 add-front-2 : tie.Need-add-front-2
-add-front-2 c = omega (arith, c .before .shared-slice-known .given (c .before .before .args .at), c .shared-slice-known2 .given (c .before .before .args .at + 1))
+add-front-2 c = omega (
+  arith,
+  c .before .shared-slice-known .given (c .before .before .args .at),
+  c .shared-slice-known2 .given
+      (c .before .before .args .at + 1),
+)
 
 add-back : tie.Need-add-back
 add-back c = search needs
@@ -49,16 +54,42 @@ cast-back-2 : tie.Need-cast-back-2
 cast-back-2 c = omega (arith, c .shared-slice-known4 .given (c .before .before .before .before .args .at + 3))
 
 add-back-3 : tie.Need-add-back-3
-add-back-3 c = omega (arith, c .before .shared-slice-known3 .given (c .before .before .before .before .args .at + 2), c .shared-slice-known4 .given (c .before .before .before .before .args .at + 3))
+add-back-3 c = omega (
+  arith,
+  c .before .shared-slice-known3 .given (c .before .before .before .before .args .at + 2),
+  c .shared-slice-known4 .given
+      (c .before .before .before .before .args .at + 3),
+)
 
 mul-result : tie.Need-mul-result
-mul-result c = omega (arith, c .before .before .before .shared-slice-known .given (c .before .before .before .before .args .at), c .before .before .shared-slice-known2 .given (c .before .before .before .before .args .at + 1))
+mul-result c = omega (
+  arith,
+  c .before .before .before .shared-slice-known .given (c .before .before .before .before .args .at),
+  c .before .before .shared-slice-known2 .given (c .before .before .before .before .args .at + 1),
+)
 
 add-result : tie.Need-add-result
-add-result c = omega (arith, c .before .before .before .shared-slice-known .given (c .before .before .before .before .args .at), c .before .before .shared-slice-known2 .given (c .before .before .before .before .args .at + 1), c .before .shared-slice-known3 .given (c .before .before .before .before .args .at + 2), c .shared-slice-known4 .given (c .before .before .before .before .args .at + 3))
+add-result c = omega (
+  arith,
+  c .before .before .before .shared-slice-known .given (c .before .before .before .before .args .at),
+  c .before .before .shared-slice-known2 .given (c .before .before .before .before .args .at + 1),
+  c .before .shared-slice-known3 .given
+      (c .before .before .before .before .args .at + 2),
+  c .shared-slice-known4 .given (c .before .before .before .before .args .at + 3),
+)
 
 returns : tie.Need-returns
-returns c = (four-bytes (c .before .before .before .before .args .b .now) (c .before .before .before .before .args .at), omega (arith, c .before .before .before .shared-slice-known .given (c .before .before .before .before .args .at), c .before .before .shared-slice-known2 .given (c .before .before .before .before .args .at + 1), c .before .shared-slice-known3 .given (c .before .before .before .before .args .at + 2), c .shared-slice-known4 .given (c .before .before .before .before .args .at + 3)))
+returns c = (
+  four-bytes (c .before .before .before .before .args .b .now) (c .before .before .before .before .args .at),
+  omega (
+    arith,
+    c .before .before .before .shared-slice-known .given (c .before .before .before .before .args .at),
+    c .before .before .shared-slice-known2 .given (c .before .before .before .before .args .at + 1),
+    c .before .shared-slice-known3 .given
+        (c .before .before .before .before .args .at + 2),
+    c .shared-slice-known4 .given (c .before .before .before .before .args .at + 3),
+  ),
+)
 
 pub four-there-spec : {M : Type 1} → statement M
 four-there-spec =

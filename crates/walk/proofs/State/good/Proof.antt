@@ -22,7 +22,8 @@ both-requires : tie.Need-both-requires
 both-requires c κs = search needs
 
 returns : tie.Need-returns
-returns c = both≡ (c .both .ensures) (c .before .before .before .within .ensures) (c .before .is-zero .ensures) ∙ sym (laws.good-zero (c .before .before .before .before .before .args .self) (c .before .before .if1 .taken))
+returns c = both≡ (c .both .ensures) (c .before .before .before .within .ensures) (c .before .is-zero .ensures)
+    ∙ sym (laws.good-zero (c .before .before .before .before .before .args .self) (c .before .before .if1 .taken))
 
 good-requires : tie.Need-good-requires
 good-requires c κs = search needs
@@ -34,10 +35,21 @@ both-requires-2 : tie.Need-both-requires-2
 both-requires-2 c κs = search needs
 
 returns-2 : tie.Need-returns-2
-returns-2 c = both≡ (c .both2 .ensures) (c .before .before .before .before .before .within .ensures) (ap (λ (t : ℕ). leb (c .before .before .before .before .before .before .before .args .self .passed) t) (c .before .total .ensures .0)) ∙ sym (laws.good-some (c .before .before .before .before .before .before .before .args .self) (c .before .before .before .before .if1 .left) ∙ ap (λ (t : Bool). bothOf (withinOf 1 (c .before .before .before .before .before .before .before .args .self .kind) 4) (bothOf t (leb (c .before .before .before .before .before .before .before .args .self .passed) (totalOf (c .before .before .before .before .before .before .before .args .self .kind) (c .before .before .before .before .before .before .before .args .self .plan))))) (sym (c .before .before .before .good2 .ensures) ∙ c .before .before .if2 .taken))
+returns-2 c = both≡ (c .both2 .ensures) (c .before .before .before .before .before .within .ensures)
+    (ap (λ (t : ℕ). leb (c .before .before .before .before .before .before .before .args .self .passed) t) (c .before .total .ensures .0))
+    ∙ sym (laws.good-some (c .before .before .before .before .before .before .before .args .self) (c .before .before .before .before .if1 .left)
+    ∙ ap (λ (t : Bool). bothOf (withinOf 1 (c .before .before .before .before .before .before .before .args .self .kind) 4)
+    (bothOf t (leb (c .before .before .before .before .before .before .before .args .self .passed)
+    (totalOf (c .before .before .before .before .before .before .before .args .self .kind)
+    (c .before .before .before .before .before .before .before .args .self .plan))))) (sym (c .before .before .before .good2 .ensures)
+    ∙ c .before .before .if2 .taken))
 
 returns-3 : tie.Need-returns-3
-returns-3 c = sym (laws.good-some (c .before .before .before .before .before .args .self) (c .before .before .if1 .left) ∙ ap (λ (t : Bool). bothOf (withinOf 1 (c .before .before .before .before .before .args .self .kind) 4) (bothOf t (leb (c .before .before .before .before .before .args .self .passed) (totalOf (c .before .before .before .before .before .args .self .kind) (c .before .before .before .before .before .args .self .plan))))) (sym (c .before .good2 .ensures) ∙ c .if2 .left) ∙ both-false (withinOf 1 (c .before .before .before .before .before .args .self .kind) 4))
+returns-3 c = sym (laws.good-some (c .before .before .before .before .before .args .self) (c .before .before .if1 .left)
+    ∙ ap (λ (t : Bool). bothOf (withinOf 1 (c .before .before .before .before .before .args .self .kind) 4)
+    (bothOf t (leb (c .before .before .before .before .before .args .self .passed)
+    (totalOf (c .before .before .before .before .before .args .self .kind) (c .before .before .before .before .before .args .self .plan)))))
+    (sym (c .before .good2 .ensures) ∙ c .if2 .left) ∙ both-false (withinOf 1 (c .before .before .before .before .before .args .self .kind) 4))
 
 pub good-spec : {M : Type 1} → statement M
 good-spec =

@@ -1,0 +1,55 @@
+-- The five ranges of the definition, put together.
+use borrow.Author.Needs.{needs}
+use Rattle.words.proofs.Laws.{both≡}
+use Rattle.allowed.proofs.image_ranges.Statement.{statement}
+use Rattle.allowed.proofs.image_ranges.Tie as tie
+
+within-requires : tie.Need-within-requires
+within-requires c κs = search needs
+
+within-requires-2 : tie.Need-within-requires-2
+within-requires-2 c κs = search needs
+
+both-requires : tie.Need-both-requires
+both-requires c κs = search needs
+
+within-requires-3 : tie.Need-within-requires-3
+within-requires-3 c κs = search needs
+
+both-requires-2 : tie.Need-both-requires-2
+both-requires-2 c κs = search needs
+
+within-requires-4 : tie.Need-within-requires-4
+within-requires-4 c κs = search needs
+
+within-requires-5 : tie.Need-within-requires-5
+within-requires-5 c κs = search needs
+
+both-requires-3 : tie.Need-both-requires-3
+both-requires-3 c κs = search needs
+
+both-requires-4 : tie.Need-both-requires-4
+both-requires-4 c κs = search needs
+
+returns : tie.Need-returns
+returns c = both≡ (c .both4 .ensures) (c .before .before .before .within4 .ensures)
+    (both≡ (c .before .both3 .ensures) (c .before .before .within5 .ensures)
+    (both≡ (c .before .before .before .before .both2 .ensures) (c .before .before .before .before .before .within3 .ensures)
+    (both≡ (c .before .before .before .before .before .before .both .ensures)
+    (c .before .before .before .before .before .before .before .before .within .ensures)
+    (c .before .before .before .before .before .before .before .within2 .ensures))))
+
+pub image-ranges-spec : {M : Type 1} → statement M
+image-ranges-spec =
+    tie.close
+    (tie.spec
+    within-requires
+    within-requires-2
+    both-requires
+    within-requires-3
+    both-requires-2
+    within-requires-4
+    within-requires-5
+    both-requires-3
+    both-requires-4
+    returns)

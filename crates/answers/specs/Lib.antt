@@ -1,2 +1,0 @@
--- The specs of `answers`: an answer's five numbers.
-pub mod Told

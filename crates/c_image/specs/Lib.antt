@@ -1,0 +1,2 @@
+-- The specs of `c_image`: what each call on an image leaves behind.
+pub mod Calls

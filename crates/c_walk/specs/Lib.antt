@@ -1,0 +1,2 @@
+-- The specs of `c_walk`: what each call of the walk leaves behind.
+pub mod Calls

@@ -1,2 +1,0 @@
--- The specs of `capi`: what each call over the C boundary leaves behind.
-pub mod Boundary

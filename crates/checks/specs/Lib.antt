@@ -1,2 +1,0 @@
--- The specs of `checks`: the parts that the bodies of several records share.
-pub mod Parts

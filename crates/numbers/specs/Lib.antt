@@ -1,2 +1,0 @@
--- The specs of `numbers`: a state as 42 numbers.
-pub mod Numbers

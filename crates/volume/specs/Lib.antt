@@ -1,0 +1,2 @@
+-- The specs of `volume`: the tests of a directory's records and the pointer count that its descriptor names.
+pub mod Volume

@@ -1,0 +1,2 @@
+-- The specs of `writing`: what is written into bytes.
+pub mod Writing

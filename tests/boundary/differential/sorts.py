@@ -1,0 +1,411 @@
+"""The sorts of cases of the differential run: each is a function of drawn numbers that asks a block of questions.
+
+`block` is the number of the block in its sort, from 0; all else comes from `rng`, so that sort, block and seed
+give the same questions again."""
+import random
+from typing import Callable, Iterator
+
+from asking import MANY, STATE, Asking
+
+import reader  # the path to tests/oracle is set by asking
+import make
+from reader import IMAGE, LEADER, N, PASSED, TRAILER, VOLUME, W
+from make import KINDS, Made
+
+OPEN, CLOSED = 0, 1
+HUGE = (2 ** 32 - 1, 2 ** 32, 2 ** 63 - 1, 2 ** 63, 2 ** 64 - 192, 2 ** 64 - 2, MANY)
+Sort = Callable[[random.Random, Asking, int], None]
+
+
+def either(rng: random.Random) -> int:
+    """Open or closed; closed is any number but 0."""
+    return rng.choice((OPEN, CLOSED, CLOSED, rng.choice((2, 255, 256, 2 ** 32, 2 ** 63, MANY))) if rng.random() < 0.3 else (OPEN, CLOSED))
+
+
+def fresh(ask: Asking, kind: int) -> None:
+    ask.set_state(reader.begin(kind)[0])
+
+
+# Whole files, damage, cuts, pieces ------------------------------------------------------------------------
+
+
+def whole(rng: random.Random, ask: Asking, block: int) -> None:
+    """Valid files of the four kinds: every budget up to two more than the records, open and closed; record by record."""
+    made = make.random_file(rng, KINDS[block % 4])
+    ask.hold(made.data)
+    size = len(made.data)
+    budgets = [*range(min(made.records, 12) + 3), made.records - 1, made.records, made.records + 1, rng.choice(HUGE)]
+    for budget in budgets:
+        for closed in (OPEN, CLOSED):
+            fresh(ask, made.kind)
+            ask.walk(0, size, closed, budget)
+    ask.begin(made.kind)
+    for closed in (CLOSED, OPEN):
+        for ordinal in range(made.records + 1):
+            ask.set_state(made.state(ordinal))
+            at = ask.start()
+            ask.walk(at, size - at, closed, rng.choice((0, 1, 1, 2, 3, MANY)))
+
+
+def broken(rng: random.Random, ask: Asking, block: int) -> None:
+    """Every rule of a file broken, one at a time: from the state before that record, or from a fresh one."""
+    made = make.random_file(rng, KINDS[block % 3] if block % 10 else TRAILER)
+    ask.hold(made.data)
+    for one in make.breaks(rng, made):
+        old = ask.put(one.place, one.patch)
+        before = rng.choice((one.rank[0] - 1, one.rank[0] - 1, max(0, one.rank[0] - 2), 0 if made.kind != LEADER else one.rank[0] - 1))
+        ask.set_state(made.state(before))
+        at = made.starts[before]
+        ask.walk(at, len(made.data) - at, either(rng), rng.choice((1, 2, MANY, MANY)))
+        ask.put(one.place, old)
+
+
+def damaged(rng: random.Random, ask: Asking, block: int) -> None:
+    """Files damaged in any way, closed and open, cut anywhere; and bytes that are no file."""
+    made = make.random_file(rng, rng.choice(KINDS))
+    for _ in range(4):
+        data = make.damage(rng, made)
+        ask.hold(data)
+        fresh(ask, made.kind)
+        ask.walk(0, len(data), CLOSED)
+        ask.walk(0, len(data), OPEN, rng.choice((MANY, rng.randint(0, 6))))
+        ask.walk(0, rng.randint(0, len(data)), either(rng), rng.choice((MANY, MANY, rng.randint(0, 6))))
+        fresh(ask, rng.choice(KINDS))
+        ask.walk(0, len(data), either(rng))
+    noise = rng.randbytes(rng.randint(0, 60))
+    ask.hold(noise)
+    for kind in KINDS:
+        fresh(ask, kind)
+        ask.walk(0, len(noise), either(rng), rng.choice((0, 1, MANY)))
+
+
+def smallest(rng: random.Random, kind: int) -> Made:
+    plans = {VOLUME: make.volume_plan(3), LEADER: make.leader_shape(rng, 0, 1 << rng.randrange(11)), TRAILER: make.trailer_plan(),
+             IMAGE: make.image_plan(2, 3, rng.choice((0, 2)), 200)}
+    return make.make(rng, plans[kind])
+
+
+def cuts(rng: random.Random, ask: Asking, block: int) -> None:
+    """A small file cut at every byte, open and closed; each second time with one rule broken."""
+    made = smallest(rng, KINDS[block % 4])
+    data = make.apply(made.data, rng.choice(make.breaks(rng, made))) if block // 4 % 2 else made.data
+    ask.hold(data)
+    fresh(ask, made.kind)
+    for size in range(len(data) + 1):
+        ask.walk(0, size, OPEN)
+        ask.walk(0, size, CLOSED)
+
+
+def pieces(rng: random.Random, ask: Asking, block: int) -> None:
+    """A file that arrives in pieces: states handed back, any budgets, open until all is there, closed at the end."""
+    made = make.random_file(rng, rng.choice((VOLUME, LEADER, IMAGE, IMAGE, TRAILER)))
+    data = make.damage(rng, made) if rng.random() < 0.5 else made.data
+    ask.hold(data)
+    ask.begin(made.kind)
+    arrived, at, most = 0, 0, rng.choice((13, 200, 800, 5000))
+    for _ in range(60):
+        arrived = min(len(data), arrived + rng.choice((0, 1, 11, 12, rng.randint(0, most), rng.randint(0, most))))
+        closed = CLOSED if arrived == len(data) and rng.random() < 0.6 else OPEN
+        stop = ask.walk(at, max(0, arrived - at), closed, rng.choice((0, 1, 1, 2, 3, 7, MANY, MANY)), keep=True)
+        at = ask.start()
+        if stop[0] in ('complete', 'refused'):
+            ask.walk(at, max(0, arrived - at), closed, MANY, keep=True)  # said again
+            break
+
+
+# States -----------------------------------------------------------------------------------------------
+
+
+def off(rng: random.Random, number: int) -> Iterator[int]:
+    """Other numbers in its place: off by one, 0, huge, any."""
+    yield from {(number - 1) % 2 ** 64, (number + 1) % 2 ** 64, 0, rng.choice(HUGE), rng.choice(make.EDGES), rng.randrange(2 ** 64)} - {number}
+
+
+def states(rng: random.Random, ask: Asking, block: int) -> None:
+    """A good state with each of its 42 numbers altered; the walk, its budget of 0, and the start of each."""
+    base = make.good_state_of(rng, KINDS[block % 4]) if block % 3 else make.random_file(rng, KINDS[block % 4]).state(1)
+    ask.hold(rng.randbytes(40))
+    ask.set_state(base)
+    ask.start()
+    ask.walk(0, 40, CLOSED)
+    for index in range(STATE):
+        for number in off(rng, base[index]):
+            ask.set_number(index, number)
+            if rng.random() < 0.3:
+                ask.start()
+            else:
+                ask.walk(0, rng.choice((0, 11, 40)), either(rng), rng.choice((0, 1, MANY)))
+        ask.set_number(index, base[index])
+    for _ in range(20):
+        ask.set_state(make.any_state(rng))
+        ask.start()
+        ask.walk(0, rng.choice((0, 11, 40)), either(rng), rng.choice((0, 1, MANY)))
+
+
+def begins(rng: random.Random, ask: Asking, block: int) -> None:
+    """Kinds that there are and kinds that there are not, over any state."""
+    for kind in (*range(7), 255, 256, 257, 2 ** 32 + 1, 2 ** 32 + 3, *HUGE, rng.randrange(2 ** 64)):
+        ask.set_state(make.any_state(rng))
+        ask.begin(kind, rng.choice((42, 42, 43, 60)), rng.choice((5, 5, 6, 9)))
+        ask.start()
+        ask.walk(0, 0, either(rng), rng.choice((0, 1)))
+
+
+def far(rng: random.Random, ask: Asking, block: int) -> None:
+    """States deep in a huge image, so that places pass 32 bits, with the bytes of their next record alone."""
+    size = rng.choice((4_300, 6_000, 12_192)) if block % 12 else rng.choice((99_999, 999_999))
+    n, s = rng.randint(900_000, 999_999), rng.choice((0, 7))
+    w = rng.choice((1, 3, (size - 192 - s) // 2))
+    line = rng.randint(2 ** 32 // size + 1, n) if n * size > 2 ** 32 else n
+    plan = make.image_plan(n, w, s, size)
+    maker = make.Maker(rng, plan)
+    maker.record((50, 11, 18, 20), size)
+    maker.line_parts(line, make.random_fills(rng, w))
+    ask.hold(bytes(maker.data) + b'\0')
+    ask.put(0, (line + 1).to_bytes(4, 'big'))
+    state = [*plan]
+    state[PASSED] = line
+    ask.set_state(state)
+    ask.start()
+    for place, text in ((0, b''), (0, b'\1'), (6, b'\0'), (8, b'\1'), (12, b'\7'), (19, b'\2'), (20, b'\xff' * 4), (28, b'\0\1')):
+        old = ask.put(place, text)
+        for length in {size + 1, size, size - 1, 12, rng.choice((0, 5, 11, 13, 32))}:
+            ask.walk(0, length, either(rng), rng.choice((1, MANY)))
+        ask.put(place, old)
+    ask.walk(0, size, OPEN, 1, keep=True)
+    ask.start()
+    state[PASSED] = n + 1
+    ask.set_state(state)
+    for length, closed in ((0, OPEN), (0, CLOSED), (1, OPEN), (1, CLOSED)):
+        ask.walk(0, length, closed)
+    ask.start()
+    far_leader(rng, ask)
+
+
+def far_leader(rng: random.Random, ask: Asking) -> None:
+    """States in a leader of any size, with the next header alone."""
+    for _ in range(6):
+        state = make.good_state_of(rng, LEADER)
+        ask.set_state(state)
+        ask.start()
+        if 0 < state[PASSED] < reader.planned(state):
+            due = reader._leader_dues(state)[state[PASSED] - 1]
+            codes = bytes(rng.randrange(256) if code is None else code for code in due.codes)
+            ask.hold((state[PASSED] + 1).to_bytes(4, 'big') + codes + due.length.to_bytes(4, 'big') + rng.randbytes(30))
+            for length in (12, rng.randint(0, 42), 42):
+                ask.walk(0, length, either(rng), rng.choice((0, 1, MANY)))
+            ask.put(rng.randrange(12), bytes((rng.randrange(256),)))
+            ask.walk(0, 42, either(rng))
+
+
+# Written numbers ----------------------------------------------------------------------------------------
+
+
+def grammar(rng: random.Random, width: int) -> bytes:
+    """Letters of the grammar, often right-justified."""
+    if rng.random() < 0.5:
+        return bytes(rng.choice(b'   +-01290.E') for _ in range(width))
+    size = rng.randint(1, width)
+    return bytes(rng.choice(b'+-0123456789.E' if rng.random() < 0.3 else b'0123456789') for _ in range(size)).rjust(width)
+
+
+def extremes(form: str) -> list[bytes]:
+    """The widest and the smallest numbers of a form."""
+    width, places = make.WIDTH[form], make.PLACES.get(form, 0)
+    tails = [b'E+99', b'E-99', b'E+00', b'E-00'] if form[0] == 'E' else [b'']
+    point = b'.' if places else b''
+    before = width - places - len(point) - len(tails[0])
+    texts = []
+    for tail in tails:
+        for digit in (b'9', b'0', b'1'):
+            for sign in (b'', b'+', b'-'):
+                texts.append(sign + digit * (before - len(sign)) + point + digit * places + tail)
+        if places:
+            texts += [(sign + point + b'0' * (places - 1) + b'1' + tail).rjust(width) for sign in (b'', b'+', b'-')]
+    return texts
+
+
+def shapes(rng: random.Random, form: str) -> list[bytes]:
+    """Texts of the form's width: blank, extremes, bad ones, drawn ones."""
+    width = make.WIDTH[form]
+    texts = [b' ' * width, *rng.sample(extremes(form), 5), *rng.sample(make.bad_texts(form), 8)]
+    texts += [make.spell_point(rng, form)[0] for _ in range(6)]
+    texts += [grammar(rng, width) for _ in range(6)]
+    good = bytearray(make.spell_point(rng, form)[0])
+    for _ in range(4):
+        one = bytearray(good)
+        one[rng.randrange(width)] = rng.choice((rng.randrange(256), rng.choice(b' +-.E/:0\t\0e')))
+        texts.append(bytes(one))
+    return texts
+
+
+def fields(rng: random.Random, ask: Asking, block: int) -> None:
+    """Every listed field in every shape, in records of any length, and numbers that are not listed."""
+    size = rng.choice((4096, 2006, 1620, 2100))
+    ask.hold(b' ' * size if block % 2 else rng.randbytes(size))
+    for number, (first, last, form) in reader.LISTED.items():
+        if last > size:
+            continue
+        for text in shapes(rng, form):
+            ask.put(first - 1, text)
+            ask.field(0, rng.choice((size, last)), number)
+        for length in (last - 1, first - 1, rng.randint(0, size), 0):
+            ask.field(0, length, number)
+        ask.field(0, rng.choice((0, 1, size, rng.randint(0, size))), rng.choice((0, 14, 15, 256 + number, 2 ** 32 + number, *HUGE)))
+
+
+def numbers(rng: random.Random, ask: Asking, block: int) -> None:
+    """Every number field of the records that the walk reads (I4, I6, I8), in every shape."""
+    made = make.random_file(rng, KINDS[block % 3])
+    ask.hold(made.data)
+    parts = [part for part in made.parts if part.sort in ('number', 'listed')]
+    for part in rng.sample(parts, min(len(parts), 8)):
+        old = ask.bytes_at(part.place, part.width)
+        ask.set_state(made.state(part.record - 1))
+        begun, ended = made.starts[part.record - 1], made.starts[part.record]
+        texts = shapes(rng, part.form)
+        values = (part.low - 1, part.low, part.high, part.high + 1, -part.low, 0, rng.randint(part.low, part.high))
+        texts += [make.spell_whole(rng, value, part.width) for value in values if part.sort == 'number' and make.fits_width(value, part.width)]
+        for text in texts:
+            ask.put(part.place, text)
+            ask.walk(begun, ended - begun, either(rng), 1)
+        ask.put(part.place, old)
+
+
+# Lines, rows, sets, listing -------------------------------------------------------------------------------
+
+
+def an_image(rng: random.Random) -> tuple[Made, bytes]:
+    """An image, or damage of one."""
+    made = make.random_file(rng, IMAGE)
+    return made, make.damage(rng, made) if rng.random() < 0.4 else made.data
+
+
+def lines(rng: random.Random, ask: Asking, block: int) -> None:
+    """Every line, lines that there are not, of prefixes of any length; one line at every byte of a small image."""
+    made, data = an_image(rng)
+    ask.hold(data)
+    size = len(data)
+    for line in (*range(made.plan[N] + 3), 2 ** 32 + 1, rng.choice(HUGE)):
+        ask.line(0, size, line)
+        ask.line(0, rng.randint(0, size), line)
+    for start in made.starts:
+        for length in (start - 1, start, start + 1, start + 11, start + 12, start + 32):
+            ask.line(0, max(0, min(size, length)), rng.randint(1, made.plan[N]))
+    for one in rng.sample(make.breaks(rng, made), 20):
+        if one.place + len(one.patch) <= size:
+            old = ask.put(one.place, one.patch)
+            ask.line(0, size, max(1, one.rank[0] - 1) + rng.choice((0, 0, 0, 1)))
+            ask.put(one.place, old)
+    if block % 8 == 0:
+        small = smallest(rng, IMAGE)
+        ask.hold(small.data)
+        for length in range(len(small.data) + 1):
+            ask.line(0, length, 1 + length % 2)
+    wide_line(rng, ask)
+
+
+def wide_line(rng: random.Random, ask: Asking) -> None:
+    """The first record of an image of any size: how many bytes a far line waits for."""
+    plan = make.wide_plan(rng, IMAGE)
+    first = make.first_record(rng, plan).data
+    ask.hold(first)
+    for line in (1, plan[N], plan[N] + 1, rng.randint(1, plan[N])):
+        ask.line(0, len(first), line)
+        ask.row(0, len(first), line, 3)
+
+
+def rows(rng: random.Random, ask: Asking, block: int) -> None:
+    """Row copies into rows too short, just long enough, and longer; on waits and refusals too."""
+    made, data = an_image(rng)
+    ask.hold(data)
+    size, w = len(data), made.plan[W]
+    for line, shown in enumerate(made.lines, start=1):
+        count = len(shown.pixels)
+        for row_len in {0, count - 1, count, count + 1, w, w + 5, rng.randint(0, w)} - {-1}:
+            ask.row(0, size, line, row_len)
+        ask.row(0, rng.randint(0, size), line, w)
+    for line in (0, made.plan[N] + 1, rng.choice(HUGE)):
+        ask.row(0, size, line, rng.choice((0, w)))
+    if block % 20 == 0:
+        longer = make.make_image(rng, make.image_plan(1, 6_000, 0), [(0, 6_000, 0)])
+        ask.hold(longer.data)
+        for row_len in (5_999, 6_000, 6_001):
+            ask.row(0, len(longer.data), 1, row_len)
+
+
+def sets(rng: random.Random, ask: Asking, block: int) -> None:
+    """Directories with their counts: the same, other at each pointer, other lengths; damaged and cut directories."""
+    made = make.random_file(rng, VOLUME)
+    size, counts = len(made.data), made.counts
+    ask.hold(made.data)
+    ask.set(0, size, counts)
+    for pointer, count in enumerate(counts):
+        for other in (count - 1, count + 1, 0, rng.choice(HUGE), count + 2 ** 32, MANY - count + 1):
+            ask.set(0, size, [*counts[:pointer], other, *counts[pointer + 1:]])
+        two = rng.sample(range(len(counts)), 2)
+        ask.set(0, size, [count + (i in two) for i, count in enumerate(counts)])
+    for many in range(9):
+        ask.set(0, size, (counts * 3)[:many])
+    ask.set(0, size, list(reversed(counts)))
+    ask.set(0, size, counts * 100)
+    ask.set(0, rng.randint(0, size), counts)
+    for one in rng.sample(make.breaks(rng, made), 12):
+        old = ask.put(one.place, one.patch)
+        ask.set(0, size, counts[:rng.choice((0, 1, 9, 9, 9))])
+        ask.put(one.place, old)
+    for _ in range(2):
+        data = make.damage(rng, made)
+        ask.hold(data)
+        ask.set(0, len(data), counts)
+
+
+def listed_file(rng: random.Random, block: int) -> bytes:
+    """An image, whole, damaged or cut; now and then one with lines too long to list, or as long as they may be."""
+    if block % 10 == 9:
+        plan = make.image_plan(1, rng.choice((1, 16_280)), 0, rng.choice((32_768, 32_769, 32_770, 40_000)))
+        data = make.make(rng, plan).data
+        return data[:rng.choice((len(data), 720, 800))]
+    made, data = an_image(rng)
+    return data if rng.random() < 0.8 else data[:rng.randint(0, len(data))]
+
+
+def listing(rng: random.Random, ask: Asking, block: int) -> None:
+    """Whole listings by the boundary: walks with a budget of 1 and the line view."""
+    for turn in range(10):
+        data = listed_file(rng, turn)
+        ask.hold(data)
+        ask.listing(0, len(data))
+
+
+# Arrays too short or longer, NULL --------------------------------------------------------------------------
+
+
+def arrays(rng: random.Random, ask: Asking, block: int) -> None:
+    """Every function with arrays of every length up to a little more than needed; NULL where a length is 0."""
+    made = make.random_file(rng, KINDS[block % 4])
+    image, volume = make.random_file(rng, IMAGE), make.random_file(rng, VOLUME)
+    ask.hold(made.data + image.data + volume.data)
+    a, b = len(made.data), len(image.data)
+    for length in (*range(45), 50, 60):
+        answer_len = rng.choice((5, 5, 6, 8, rng.randrange(5)))
+        ask.set_state(made.state(rng.randint(0, made.records)))
+        ask.start(length)
+        at = reader.start(ask.state)
+        ask.walk(at, a - at, either(rng), rng.choice((0, 1, MANY)), array_len=length, answer_len=answer_len)
+        ask.walk(0, 0, either(rng), 1, array_len=length, answer_len=answer_len)
+        ask.begin(rng.randint(0, 5), length, answer_len, keep=False)
+    for answer_len in range(8):
+        for value_len in range(5):
+            ask.field(0, rng.choice((0, a)), rng.randint(0, 14), value_len, answer_len)
+        ask.line(a, rng.choice((0, b)), rng.randint(0, 2), answer_len)
+        ask.row(a, rng.choice((0, b, b)), rng.randint(0, 2), rng.choice((0, 3, image.plan[W])), answer_len)
+        ask.set(a + b, rng.choice((0, len(volume.data))), volume.counts[:rng.choice((0, 9))], answer_len)
+
+
+# sort: its share of a thousand cases
+SORTS: dict[Sort, int] = {
+    whole: 60, broken: 150, damaged: 110, cuts: 150, pieces: 80, states: 110, begins: 5, far: 40, fields: 100, numbers: 60,
+    lines: 60, rows: 40, sets: 25, listing: 10, arrays: 25,
+}
+BY_NAME: dict[str, Sort] = {sort.__name__: sort for sort in SORTS}
