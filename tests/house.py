@@ -4,11 +4,13 @@
 promises  every name that docs/PROMISES.md cites is defined there as public: `crates/..:name`; must-fail edits that it cites are there, and all are cited
 list      its list of the must-fail edits is what scripts/edits makes of them
 names     every `crate::function` and every file that README.md, CONTRIBUTING.md and docs/ name is there (not LANDINGS.md, which tells of its time);
-          no two files of tests/ have one name
+          no two files of tests/ have one name; nothing leans on a page outside the repository
 map       CONTRIBUTING.md's map of the crates is what scripts/map makes of crates.txt and the crates' own openings
 floors    a crate needs only what stands above it in crates.txt, and none but a crate of theorems needs a crate of theorems
 needs     crates.txt says of each crate exactly what it needs (scripts/needs)
 openings  every proof file opens with a sentence that says what it shows
+contracts every entry point's contract is an equation for its result and for each `&mut` parameter, so that no second
+          answer fits; or docs/PROMISES.md lists it with a theorem that two outcomes which meet it are equal
 requires  every public function with a `requires` is listed in docs/PROMISES.md with its callers
 edits     no must-fail edit was refused only because a proof file no longer fits the code
 lengths   functions of at most 40 lines, lines of at most 160 characters
@@ -67,8 +69,19 @@ def names() -> list[str]:
         count += len(cited) + len(paths)
     files = [path.name for path in (HOME / 'tests').rglob('*.*')]
     faults += [f'tests/: {files.count(name)} files are {name}' for name in sorted(set(files)) if files.count(name) > 1]
+    for path in outside():
+        faults.append(f'{path.relative_to(HOME)}: it leans on a page outside the repository')
     print(f'{count} names')
     return faults
+
+
+def outside() -> list[Path]:
+    """Pages and sources that name a page which a clone does not have."""
+    word = re.compile(r'\.\./' + r'shared|DESIGN' + r'\.md|REQUESTS' + r'\.md|PROOF' + '-NOTES')
+    texts = [HOME / 'README.md', HOME / 'CONTRIBUTING.md', HOME / 'Makefile', *(HOME / 'docs').glob('*.md'), *(HOME / 'scripts').glob('*')]
+    texts += [path for folder in ('crates', 'tests', 'host', 'include', 'bench') for path in (HOME / folder).rglob('*.*')
+              if path.suffix in ('.rt', '.antt', '.edit', '.py', '.c', '.h', '.def')]
+    return sorted(path for path in texts if word.search(path.read_text()))
 
 
 def made(script: str) -> list[str]:
@@ -147,6 +160,42 @@ def requires() -> list[str]:
     return faults
 
 
+def determined(path: Path, clauses: list[str]) -> bool:
+    """A contract that is an equation for the result, or for each field of the struct that it is, and for each &mut parameter."""
+    text = '\n'.join(clauses)
+    signature = re.split(r'^\s*ensures', text, flags=re.M)[0]
+    ensured = [c.strip() for c in clauses if c.strip().startswith('ensures')]
+    result = re.search(r'-> (?:&?\[?)(\w+)', signature)
+    whole = any(re.match(r'ensures \{ λ (\w+)\. ⌜ \(?(now )?\1 ≡', c) for c in ensured)
+    if result and not whole:
+        struct = re.search(r'struct ' + result.group(1) + r' \{(.*?)\n\}', path.read_text(), re.S)
+        fields = re.findall(r'^ *(?:pub )?(\w+):', struct.group(1), re.M) if struct else []
+        whole = bool(fields) and all(re.search(r'⌜[^⌝]*\((\w+) \.' + f + ' ≡', ' '.join(ensured)) for f in fields)
+    lent = re.findall(r'(\w+): &mut', signature)
+    return (not result or whole) and all(any(f'now ({m} .exit) ≡' in c for c in ensured) for m in lent)
+
+
+def contracts() -> list[str]:
+    text = PROMISES.read_text()
+    faults, count, listed = [], 0, 0
+    for path in sources():
+        crate = path.relative_to(HOME / 'crates').parts[0]
+        if crate.startswith('try_') or crate in ('ceoslist', 'promises'):
+            continue  # programs, and a crate of theorems
+        for name, public, clauses, _ in functions(path):
+            if not public or any(re.match(r'\s*requires', c) for c in clauses):
+                continue
+            count += 1
+            if re.search(rf'^- `{crate}::{name}` is determined by `[\w/]+\.antt:[\w-]+`', text, re.M):
+                listed += 1
+            elif not determined(path, clauses) and f'`{crate}::{name}` reads and writes descriptors' not in text:
+                faults.append(f'{crate}::{name}: its contract is no equation for all that it answers or touches, and docs/PROMISES.md names no theorem')
+    print(f'{count} entry points and helpers without a `requires`, {listed} of them by a theorem')
+    if not count:
+        faults.append('no entry point was found')
+    return faults
+
+
 def edits() -> list[str]:
     logs = list((HOME / 'target' / 'must-fail').glob('*/*/.log'))
     print(f'{len(logs)} logs of must-fail edits')
@@ -194,7 +243,7 @@ def refusals() -> list[str]:
 
 
 def main() -> int:
-    rules = {f.__name__.rstrip('_'): f for f in (promises, list_, names, map_, floors, needs, openings, requires, edits, lengths, refusals)}
+    rules = {f.__name__.rstrip('_'): f for f in (promises, list_, names, map_, floors, needs, openings, contracts, requires, edits, lengths, refusals)}
     if len(sys.argv) != 2 or sys.argv[1] not in rules:
         print(__doc__)
         return 2

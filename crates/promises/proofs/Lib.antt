@@ -10,7 +10,6 @@ pub mod Pieces
 pub mod Stays
 pub mod Eleven
 pub mod Two
-pub mod OneAnswer
 -- the rules by themselves, at any edition
 pub mod Uniform
 pub mod AnyEdition
@@ -50,7 +49,11 @@ pub mod RowNamed
 pub mod AcceptedLines
 pub mod SetAgrees
 pub mod ListingIs
+pub mod ListingNamed
+pub mod ListingSome
 -- the demands bite: ours meets them, wrong programs do not
 pub mod Bites
 pub mod BitesOpen
 pub mod BitesRows
+-- the promises in the words of document 01
+pub mod InWords

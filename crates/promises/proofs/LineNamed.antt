@@ -66,16 +66,16 @@ whole-held bs k p t =
     omega (arith, length-drop (lineStart p k) bs)
 
 module _ (p : Plan) (k : ℕ) (bs : List ℕ) where
-  line-size : lineStart p k + p .l ≤ length bs → length (lineRecord p k bs) ≡ p .l
+  pub line-size : lineStart p k + p .l ≤ length bs → length (lineRecord p k bs) ≡ p .l
   line-size h = length-take-le (p .l) (drop (lineStart p k) bs) (omega (arith, length-drop (lineStart p k) bs))
 
-  line-header : length (lineRecord p k bs) ≡ p .l
+  pub line-header : length (lineRecord p k bs) ≡ p .l
       → (headerOf (k + 1) (lineCodes 0) (p .l) (lineRecord p k bs) ≡ Fine) ↔ Record (suc k) (lineDue p .Codes) (p .l) (lineRecord p k bs)
   line-header size =
       subst (λ (o : ℕ). (headerOf o (lineCodes 0) (p .l) (lineRecord p k bs) ≡ Fine) ↔ Record (suc k) (lineDue p .Codes) (p .l) (lineRecord p k bs))
       (sym (add-one k)) (header-four (suc k) 50 11 18 20 (p .l) (lineRecord p k bs) size)
 
-  line-body : (bodyOf image′ 1 p k (lineRecord p k bs) ≡ Fine) ↔ Line (p .w) k (lineRecord p k bs)
+  pub line-body : (bodyOf image′ 1 p k (lineRecord p k bs) ≡ Fine) ↔ Line (p .w) k (lineRecord p k bs)
   line-body = body-is image p 1 k (lineRecord p k bs) tt
 
   module _ (g : ℕ) where

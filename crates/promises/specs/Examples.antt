@@ -4,15 +4,15 @@ use mathlib.Core.Path.{_≡_, refl}
 use mathlib.Core.Bool.{true, false}
 use mathlib.Core.List.{List, [], _∷_, _++_, map}
 use Prim.Native.String.{String}
-use lib.IntN.{pos}
+use lib.IntN.{pos, negsuc}
 use lib.ListN.{replicate}
-use Rattle.words.specs.Answer.{Answer, Word, value, bare, refusedAs, waiting}
+use Rattle.words.specs.Answer.{Answer, Word, value, valued, bare, blank, refusedAs, waiting}
 use Rattle.words.specs.Words.{twoAt, fourAt, placeOf}
 use Rattle.decimal.specs.Text.{bytes}
 use Rattle.digits.specs.Segments.{mantissaOf, exponentOf}
 use Rattle.decimal.specs.Scan.{written, decimalOf, numberIn}
 use Rattle.decimal.specs.Examples as decimal-examples
-use Rattle.fields.specs.Field.{fieldAt}
+use Rattle.fields.specs.Field.{fieldAt, fieldAs}
 use Rattle.plan.specs.Tables.{slotOf, otherCodes}
 use Rattle.plan.specs.Plan.{totalOf, sumOf, runCounts, runLengths, firstLength, spotOf, spotFrom, codesOf, allZero, zeroPlan?, planGood, imageGood, firstCodes}
 use Rattle.plan.specs.Plan.{volumeGood, leaderGood, slotsGood}
@@ -68,10 +68,14 @@ line k left data′ right =
 abbrev pub listed : List ℕ
 listed = descriptor "     2" ++ line 1 0 3 0 ++ line 2 1 2 0
 
+-- what a printed field says, as the field reader answers
+abbrev pub says : decimal-examples.Example → Answer
+says x = fieldAs (fieldAt (bytes (x .text)) 0 (x .form))
+
 -- P1 to P10, P9 as n, P11, P12 open and closed, P13, and the listed image itself
 abbrev pub answers : List Answer
 answers =
-    map decimal-examples.says decimal-examples.table
+    map says decimal-examples.table
     ++ (stopAs (walkOf 4 (fresh 3) (descriptor "     0") true .stop)
     ∷ counted (twoAt (2 ∷ 1 ∷ []) 0)
     ∷ stopAs (walkOf 4 (fresh 1) [] false .stop)
@@ -83,7 +87,17 @@ answers =
 -- what document 01 says that they are
 abbrev pub due : List Answer
 due =
-    decimal-examples.said
+    (valued (pos 90000) (pos 0)
+    ∷ valued (pos 12345671234567) (pos 0)
+    ∷ valued (pos 0) (pos 0)
+    ∷ valued (negsuc 0) (pos 0)
+    ∷ valued (negsuc 99999999999998) (pos 0)
+    ∷ valued (pos 999999999999999) (pos 0)
+    ∷ bare blank
+    ∷ refusing 6 0 0
+    ∷ valued (pos 0) (pos 0)
+    ∷ valued (pos 10000000000000) (pos 2)
+    ∷ [])
     ++ (refusing 7 1 180
     ∷ counted 513
     ∷ waits 12
