@@ -50,7 +50,7 @@ kind-known trailer = refl
 -- ---- behind the first record
 
 -- the walk of a plan when the first record and k more are passed
-abbrev behind : Kind → Plan → ℕ → State
+abbrev pub behind : Kind → Plan → ℕ → State
 behind kind p k = record { kind = kindNumber kind; passed = suc k; plan = p }
 
 -- the bytes are the records due from place k behind the first on
@@ -60,18 +60,18 @@ record Rest (kind : Kind) (p : Plan) (k : ℕ) (bs : List ℕ) : Type 0 where
   follow : Follow (suc k) (drop k (promised kind p)) records
 
 module _ (kind : Kind) (p : Plan) (good : planGood (kindNumber kind) p ≡ true) (cl : length (p .counts) ≡ rows) (ll : length (p .lengths) ≡ rows) where
-  good-behind : (k : ℕ) → suc k ≤ totalOf (kindNumber kind) p → goodState (behind kind p k) ≡ true
+  pub good-behind : (k : ℕ) → suc k ≤ totalOf (kindNumber kind) p → goodState (behind kind p k) ≡ true
   good-behind k h = good-some (behind kind p k) (λ e. omega arith) ∙ both-make _ _ (kind-known kind) (both-make _ _ good (le-leb _ _ h))
 
-  next-behind : (k : ℕ) (bs : List ℕ) → nextOf (behind kind p k) bs ≡ behind kind p (suc k)
+  pub next-behind : (k : ℕ) (bs : List ℕ) → nextOf (behind kind p k) bs ≡ behind kind p (suc k)
   next-behind k bs =
       sym (next-as-later (behind kind p k) bs p (λ e. omega arith) refl)
       ∙ ap (λ (i : ℕ). record { kind = kindNumber kind; passed = i; plan = p }) (add-one (suc k))
 
-  all-passed : (k : ℕ) → totalOf (kindNumber kind) p ≤ suc k → drop k (promised kind p) ≡ []
+  pub all-passed : (k : ℕ) → totalOf (kindNumber kind) p ≤ suc k → drop k (promised kind p) ≡ []
   all-passed k h = drop-of-length-le (promised kind p) {i = k} (let e = promised-length kind p cl ll in omega arith)
 
-  one-due : (k : ℕ) → suc k < totalOf (kindNumber kind) p → drop k (promised kind p) ≡ due kind p k ∷ drop (suc k) (promised kind p)
+  pub one-due : (k : ℕ) → suc k < totalOf (kindNumber kind) p → drop k (promised kind p) ≡ due kind p k ∷ drop (suc k) (promised kind p)
   one-due k h = drop-cons (promised kind p) k textRecord (let e = promised-length kind p cl ll in omega arith)
 
   walk-to : (n k : ℕ) (bs : List ℕ) → suc k ≤ totalOf (kindNumber kind) p → walkOf n (behind kind p k) bs true .stop ≡ Complete → Rest kind p k bs
@@ -105,7 +105,7 @@ module _ (kind : Kind) (p : Plan) (good : planGood (kindNumber kind) p ≡ true)
   due-none : (k : ℕ) → drop k (promised kind p) ≡ [] → totalOf (kindNumber kind) p ≤ suc k
   due-none k e = let z = promised-length kind p cl ll in let y = ap length e in let x = length-drop k (promised kind p) in omega arith
 
-  due-some : (k : ℕ) (d : Due) (ds : List Due) → drop k (promised kind p) ≡ d ∷ ds → suc k < totalOf (kindNumber kind) p
+  pub due-some : (k : ℕ) (d : Due) (ds : List Due) → drop k (promised kind p) ≡ d ∷ ds → suc k < totalOf (kindNumber kind) p
   due-some k d ds e = let z = promised-length kind p cl ll in let y = ap length e in let x = length-drop k (promised kind p) in omega arith
 
   walk-from : (rs : List (List ℕ)) (n k : ℕ) → suc k ≤ totalOf (kindNumber kind) p → length rs < n → Follow (suc k) (drop k (promised kind p)) rs
@@ -144,14 +144,14 @@ module _ (kind : Kind) (p : Plan) (good : planGood (kindNumber kind) p ≡ true)
 -- ---- the first record
 
 -- the plan that a first record names has a number for each row of slots and facility pairs
-plan-counts : (kind : Kind) (r : List ℕ) → length (planOf (kindNumber kind) r .counts) ≡ rows
+pub plan-counts : (kind : Kind) (r : List ℕ) → length (planOf (kindNumber kind) r .counts) ≡ rows
 unfolding planOf countsOf
 plan-counts volume r = refl
 plan-counts leader r = refl
 plan-counts image r = refl
 plan-counts trailer r = refl
 
-plan-lengths : (kind : Kind) (r : List ℕ) → length (planOf (kindNumber kind) r .lengths) ≡ rows
+pub plan-lengths : (kind : Kind) (r : List ℕ) → length (planOf (kindNumber kind) r .lengths) ≡ rows
 unfolding planOf lengthsOf
 plan-lengths volume r = refl
 plan-lengths leader r = refl
@@ -172,7 +172,7 @@ module _ (kind : Kind) (bs : List ℕ) where
   abbrev pub planned : Plan
   planned = planOf (kindNumber kind) front
 
-  next-fresh : nextOf (fresh (kindNumber kind)) bs ≡ behind kind planned 0
+  pub next-fresh : nextOf (fresh (kindNumber kind)) bs ≡ behind kind planned 0
   unfolding nextOf spotOf
   next-fresh = refl
 
@@ -188,7 +188,7 @@ module _ (kind : Kind) (bs : List ℕ) where
       let i = pass-is (kindNumber kind) zeroPlan 0 (nextDue (fresh (kindNumber kind))) bs c (one-total (kindNumber kind) zeroPlan) (first-least kind) in
       (λ e. let q = i .0 e in (q .whole, record { head = q .head; body = q .body }), λ h. i .1 (record { whole = h .0; head = h .1 .head; body = h .1 .body }))
 
-  plan-good : Fault-free (kindNumber kind) zeroPlan front → planGood (kindNumber kind) planned ≡ true
+  pub plan-good : Fault-free (kindNumber kind) zeroPlan front → planGood (kindNumber kind) planned ≡ true
   plan-good f = first-good (kindNumber kind) zeroPlan front (kind-low kind .0) (kind-low kind .1) (f .body)
 
 -- whatever the budget, "complete" is said only of a file of the rules

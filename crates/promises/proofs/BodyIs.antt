@@ -41,7 +41,7 @@ class-is m k = go (eqb k 1) (eqb k m)
     go false false = (refl, refl)
 
 module _ (m k : ℕ) (r : List ℕ) (size : length r ≡ 360) where
-  class-text : (textAt r (placeOf 65) (classText m k) ≡ true) ↔ (take (length (bytes (classOf m k))) (drop (placeOf 65) r) ≡ bytes (classOf m k))
+  pub class-text : (textAt r (placeOf 65) (classText m k) ≡ true) ↔ (take (length (bytes (classOf m k))) (drop (placeOf 65) r) ≡ bytes (classOf m k))
   unfolding placeOf
   class-text =
       let c = class-is m k in
@@ -150,15 +150,15 @@ Long image (suc i) l = Unit {0}
 Long trailer run l = ⊥
 
 module _ (p : Plan) (i k : ℕ) (r : List ℕ) where
-  other-volume : bodyOf 1 (suc (suc i)) p k r ≡ Fine
+  pub other-volume : bodyOf 1 (suc (suc i)) p k r ≡ Fine
   unfolding bodyOf bodyTests volumeRecord firstFault
   other-volume = simp (ne-eqb (suc (suc i)) 0 (omega arith), ne-eqb (suc (suc i)) 1 (omega arith))
 
-  other-leader : bodyOf 2 (suc (suc (suc i))) p k r ≡ Fine
+  pub other-leader : bodyOf 2 (suc (suc (suc i))) p k r ≡ Fine
   unfolding bodyOf bodyTests leaderRecord firstFault
   other-leader = simp (ne-eqb (suc (suc (suc i))) 0 (omega arith), ne-eqb (suc (suc (suc i))) 1 (omega arith), ne-eqb (suc (suc (suc i))) 2 (omega arith))
 
-  of-line : bodyOf 3 (suc i) p k r ≡ firstFault (lineTests (p .w) k r)
+  pub of-line : bodyOf 3 (suc i) p k r ≡ firstFault (lineTests (p .w) k r)
   unfolding bodyOf bodyTests imageRecord
   of-line = simp (ne-eqb (suc i) 0 (omega arith))
 

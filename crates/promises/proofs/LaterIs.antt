@@ -2,13 +2,13 @@
 -- the search for record k finds the run whose record stands there.
 use Prim.Native.Nat.{ℕ, zero, suc, _+_, _≤_, _<_}
 use mathlib.Core.Path.{_≡_, refl, sym, ap, _∙_, subst}
-use mathlib.Core.List.{List, [], _++_, append-nil}
+use mathlib.Core.List.{List, append-nil}
 use mathlib.Core.Bool.{true}
 use mathlib.Core.Logic.{_↔_}
 use native.Mathlib.Omega.{arith}
 use native.Mathlib.Numerals.{add-one}
 use lib.Dec.{eqb}
-use lib.ListN.{length, getD, drop, replicate, drop-of-length-le}
+use lib.ListN.{length, getD}
 use Rattle.words.specs.Tests.{withinOf}
 use Rattle.words.proofs.Laws.{both-l, both-r, within-true}
 use Rattle.plan.specs.Tables.{slotOf, otherCodes, rows}
@@ -24,7 +24,7 @@ use Rattle.promises.specs.Rules.{Kind, volume, leader, image, trailer, k
 use Rattle.promises.specs.Newest.{promised}
 use Rattle.promises.proofs.Parts.{CodedBy, header-is}
 use Rattle.promises.proofs.BodyIs.{holdsOf, Long, body-is}
-use Rattle.promises.proofs.Runs.{expand, expand-length, expand-drop, At, spot-at}
+use Rattle.promises.proofs.Runs.{expand, expand-length, rows-expand, At, spot-at}
 
 -- what is due of a record of a run: the run's codes, its length, and what it holds
 abbrev pub promisedBy : Kind → Plan → ℕ → ℕ → Due
@@ -32,37 +32,10 @@ promisedBy kind p run l = record { Codes = CodedBy (codesOf (kindNumber kind) p 
 
 -- ---- the promised records, run by run
 
-module _ (p : Plan) (cl : length (p .counts) ≡ rows) (ll : length (p .lengths) ≡ rows) where
-  -- a leader's runs from slot row j on
-  abbrev from-row : ℕ → List Due
-  from-row j = expand (promisedBy leader p) (j + 1) (drop j (p .counts)) (drop j (p .lengths))
-
-  tail : (j : ℕ) {rest : List Due} → j < rows → rest ≡ from-row (j + 1)
-      → replicate (getD (p .counts) j 0) (promisedBy leader p (j + 1) (getD (p .lengths) j 0)) ++ rest ≡ from-row j
-  tail j l e =
-      ap (λ (x : List Due). replicate (getD (p .counts) j 0) (promisedBy leader p (j + 1) (getD (p .lengths) j 0)) ++ x) e
-      ∙ sym (expand-drop (promisedBy leader p) (j + 1) j (p .counts) (p .lengths) (omega arith) (omega arith))
-
-  last : [] ≡ from-row rows
-  last = rw (drop-of-length-le (p .counts) {i = rows} (omega arith))
-
-  leader-runs : promised leader p ≡ from-row 0
-  unfolding codesOf slotOf
-  leader-runs =
-      tail 0 (omega arith)
-      (tail 1 (omega arith)
-      (tail 2 (omega arith)
-      (tail 3 (omega arith)
-      (tail 4 (omega arith)
-      (tail 5 (omega arith)
-      (tail 6 (omega arith)
-      (tail 7 (omega arith)
-      (tail 8 (omega arith)
-      (tail 9 (omega arith)
-      (tail 10 (omega arith)
-      (tail 11 (omega arith)
-      (tail 12 (omega arith)
-      (tail 13 (omega arith) (tail 14 (omega arith) (tail 15 (omega arith) (tail 16 (omega arith) last))))))))))))))))
+leader-runs : (p : Plan) → length (p .counts) ≡ rows → length (p .lengths) ≡ rows
+    → promised leader p ≡ expand (promisedBy leader p) 1 (p .counts) (p .lengths)
+unfolding codesOf slotOf
+leader-runs p cl ll = rows-expand (promisedBy leader p) (p .counts) (p .lengths) rows 0 (sym cl) (sym ll)
 
 pub promised-runs : (kind : Kind) (p : Plan) → length (p .counts) ≡ rows → length (p .lengths) ≡ rows
     → promised kind p ≡ expand (promisedBy kind p) 1 (runCounts (kindNumber kind) p) (runLengths (kindNumber kind) p)
@@ -72,7 +45,7 @@ promised-runs leader p c l = leader-runs p c l
 promised-runs image p c l = sym (append-nil _)
 promised-runs trailer p c l = refl
 
-runs-length : (kind : Kind) (p : Plan) → length (p .counts) ≡ rows → length (p .lengths) ≡ rows
+pub runs-length : (kind : Kind) (p : Plan) → length (p .counts) ≡ rows → length (p .lengths) ≡ rows
     → length (runCounts (kindNumber kind) p) ≡ length (runLengths (kindNumber kind) p)
 unfolding runCounts runLengths
 runs-length volume p c l = refl

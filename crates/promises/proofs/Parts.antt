@@ -92,7 +92,7 @@ fourth-from : (f : Bool) (d x : ℕ) → Fourth f d x → pick f true (eqb x d) 
 fourth-from true d x e = refl
 fourth-from false d x e = eq-eqb x d e
 
-codes-to : (b : List ℕ) (c : Codes) → codesAre b c ≡ true → CodedBy c b
+pub codes-to : (b : List ℕ) (c : Codes) → codesAre b c ≡ true → CodedBy c b
 unfolding codesAre placeOf
 codes-to b c e =
     let l = both-l (bothOf (eqb (byteAt b 4) (c .one)) (eqb (byteAt b 5) (c .two))) _ e in
@@ -104,7 +104,7 @@ codes-to b c e =
       four = fourth-to (c .free) (c .four) (byteAt b 7) (both-r (eqb (byteAt b 6) (c .three)) _ r);
     }
 
-codes-from : (b : List ℕ) (c : Codes) → CodedBy c b → codesAre b c ≡ true
+pub codes-from : (b : List ℕ) (c : Codes) → CodedBy c b → codesAre b c ≡ true
 unfolding codesAre placeOf
 codes-from b c h =
     both-make _ _ (both-make _ _ (eq-eqb _ _ (h .one)) (eq-eqb _ _ (h .two)))
@@ -157,7 +157,7 @@ header-take ordinal c long n b h =
 -- ---- number fields
 
 -- a whole number has no exponent
-no-exponent : {s : Shape} {bs : List ℕ} {r : Written} → Good s bs r → s ≡ Whole → (m e : ℤ) → r ≡ Number m e → e ≡ pos 0
+pub no-exponent : {s : Shape} {bs : List ℕ} {r : Written} → Good s bs r → s ≡ Whole → (m e : ℤ) → r ≡ Number m e → e ≡ pos 0
 no-exponent (blanks s n) q m e z = cc
 no-exponent (whole w) q m e z = cc
 no-exponent (fixed w) q m e z = cc
@@ -171,13 +171,17 @@ module _ (r : List ℕ) (byte : ℕ) (k : Form) (here : placeOf byte + widthOf k
   pub field-reads : (w : Written) → Says r byte k w → at r byte k ≡ fromWritten (placeOf byte) w
   field-reads w f = told ∙ ap (fromWritten (placeOf byte)) (answer.reads k (fieldBytes r (placeOf byte) k) w f)
 
-  -- a property of a field, shown of each answer that the grammar allows
-  by-says : (P : Field → Type 0) → ((w : Written) → Says r byte k w → P (fromWritten (placeOf byte) w)) → P (fromWritten (placeOf byte) Bad) → P (at r byte k)
-  by-says P g b = subst P (sym told) (go (written k (fieldBytes r (placeOf byte) k)) (answer.says k (fieldBytes r (placeOf byte) k)))
+  -- a property of a field, shown of each answer that the grammar allows, and where it allows none
+  pub by-means : (P : Field → Type 0) → ((w : Written) → Says r byte k w → P (fromWritten (placeOf byte) w))
+      → (((w : Written) → Says r byte k w → ⊥) → P (fromWritten (placeOf byte) Bad)) → P (at r byte k)
+  by-means P g b = subst P (sym told) (go (written k (fieldBytes r (placeOf byte) k)) (answer.says k (fieldBytes r (placeOf byte) k)))
     where
       go : (w : Written) → grammar.Means k (fieldBytes r (placeOf byte) k) w → P (fromWritten (placeOf byte) w)
       go w (well f) = g w f
-      go w (badly n) = b
+      go w (badly n) = b n
+
+  by-says : (P : Field → Type 0) → ((w : Written) → Says r byte k w → P (fromWritten (placeOf byte) w)) → P (fromWritten (placeOf byte) Bad) → P (at r byte k)
+  by-says P g b = by-means P g (λ n. b)
 
   readable-to : readable? (at r byte k) ≡ true → Readable r byte k
   readable-to = by-says (λ (f : Field). readable? f ≡ true → Readable r byte k) (λ w s e. (w, s)) (λ e. absurd (false≢true e))

@@ -1,0 +1,270 @@
+-- The tests of each record's body find the first of the rules that `Refusals` writes for it: tables row by row, the image's agreements from the numbers
+-- that stand before them.
+use Prim.Native.Nat.{ℕ, zero, suc, _+_, _*_, _≤_}
+use mathlib.Core.Path.{_≡_, refl, sym, ap, _∙_, subst}
+use mathlib.Core.List.{List, [], _∷_, _++_}
+use mathlib.Core.Bool.{Bool, true, false, false≢true}
+use native.Mathlib.Omega.{arith}
+use lib.Dec.{eqb, leb}
+use lib.IntN.{pos}
+use lib.ListN.{length}
+use lib.Seq.{slice}
+use borrow.Author.Tests.{eqb-true, eq-eqb, leb-true, le-leb}
+use Rattle.words.specs.Tests.{pick, bothOf}
+use Rattle.words.specs.Words.{fourAt, placeOf}
+use Rattle.words.proofs.Laws.{both-l, both-r}
+use Rattle.words.proofs.Table.{every}
+use Rattle.decimal.specs.Forms.{widthOf, shapeOf}
+use Rattle.decimal.specs.Text.{bytes}
+use Rattle.decimal.specs.declared.Form.{Form}
+use Rattle.decimal.specs.declared.Form.the-variants.{I4, I6, I8, I16, F8d3, F16d7, E20d13}
+use Rattle.decimal.specs.declared.Shape.the-variants.{Whole}
+use Rattle.decimal.specs.declared.Written.the-variants.{Number as Written}
+use Rattle.fields.specs.Listed.{table}
+use Rattle.fields.specs.declared.Listed.{Listed}
+use Rattle.plan.specs.Tables.{slotOf}
+use Rattle.plan.specs.Plan.{firstLength}
+use Rattle.plan.specs.declared.Plan.{Plan}
+use Rattle.plan.specs.declared.Slot.{Slot}
+use Rattle.verdicts.specs.Tests.{Test, firstFault, andThen, textAt, each, numberOf}
+use Rattle.verdicts.specs.Numbers.{Number, numberAt, rowTests, numbersTests}
+use Rattle.verdicts.specs.declared.Verdict.{Verdict}
+use Rattle.verdicts.specs.declared.Verdict.the-variants.{Fine, Fault}
+use Rattle.volume.specs.Volume.{classText, volumeNumbers, volumeTests, pointerNumbers, pointerTests, volumeRecord}
+use Rattle.leader.specs.Leader.{pairs, countAt, pairTests, leaderTests, listedTests, fieldsTests, leaderRecord}
+use Rattle.leader.specs.declared.Pair as declared
+use Rattle.image.specs.Image.{imageNumbers, agreeTests, agreements, imageTests, lineTests, imageRecord}
+use Rattle.bodies.specs.Bodies.{trailerTests, bodyTests, bodyOf}
+use Rattle.promises.specs.Rules.{Kind, volume, leader, image, trailer, kindNumber, classOf}
+use Rattle.promises.specs.Newest.{Numbered}
+use Rattle.promises.proofs.Parts.{field-reads}
+use Rattle.promises.proofs.BodyIs.{Long, class-text, other-volume, other-leader, of-line}
+use Rattle.refusals.specs.Refusals.{Rule, AllHold, number, listed, pair, SaysNumber, firstBody, pointerBody, summaryBody, mapBody, lineBody}
+use Rattle.refusals.specs.Refusals.{nothing, agreement}
+use Rattle.refusals.specs.Refusals as rules
+use Rattle.refusals.proofs.Finds.{Finds, finds-none, finds-then, first-then, finds-each, rulesOf, Every}
+use Rattle.refusals.proofs.PartFinds.{exact, text-finds, listed-finds, number-finds, pair-finds}
+
+-- ---- tables
+
+-- what a computed test of each row gives
+rowed : {A : Type 0} (ok : A → Bool) (P : A → Type 0) → ((x : A) → ok x ≡ true → P x) → (xs : List A) → every ok xs ≡ true → Every P xs
+rowed ok P g [] e = tt
+rowed ok P g (x ∷ xs) e = (g x (both-l (ok x) (every ok xs) e), rowed ok P g xs (both-r (ok x) (every ok xs) e))
+
+whole? : Form → Bool
+whole? I4 = true
+whole? I6 = true
+whole? I8 = true
+whole? I16 = true
+whole? F8d3 = false
+whole? F16d7 = false
+whole? E20d13 = false
+
+whole-is : (k : Form) → whole? k ≡ true → shapeOf k ≡ Whole
+unfolding whole?
+whole-is I4 e = refl
+whole-is I6 e = refl
+whole-is I8 e = refl
+whole-is I16 e = refl
+whole-is F8d3 e = absurd (false≢true e)
+whole-is F16d7 e = absurd (false≢true e)
+whole-is E20d13 e = absurd (false≢true e)
+
+-- a field of that form at that byte lies in the first bytes
+inside? : ℕ → ℕ → Form → Bool
+inside? size byte k = leb (placeOf byte + widthOf k) size
+
+module _ (r : List ℕ) (size : ℕ) (long : length r ≡ size) where
+  inside-is : (byte : ℕ) (k : Form) → inside? size byte k ≡ true → placeOf byte + widthOf k ≤ length r
+  unfolding inside?
+  inside-is byte k e = let h = leb-true (placeOf byte + widthOf k) size e in omega (arith, long)
+
+  -- number fields
+  abbrev numberRules : Number → List Rule
+  numberRules x = number r (x .byte) (x .form) (x .least) (x .most)
+
+  numbered? : Number → Bool
+  numbered? x = bothOf (inside? size (x .byte) (x .form)) (whole? (x .form))
+
+  numbers-find : (xs : List Number) → every numbered? xs ≡ true → Finds (firstFault (numbersTests r xs)) (rulesOf numberRules xs)
+  unfolding numbersTests numbered?
+  numbers-find xs e =
+      finds-each (rowTests r) numberRules xs
+      (rowed numbered? (λ (x : Number). Finds (firstFault (rowTests r x)) (numberRules x))
+      (λ x q.
+      number-finds r (x .byte) (x .form) (inside-is (x .byte) (x .form) (both-l (inside? size (x .byte) (x .form)) _ q))
+      (whole-is (x .form) (both-r (inside? size (x .byte) (x .form)) _ q)) (x .least) (x .most)) xs e)
+
+  -- listed fields
+  abbrev listedRules : Listed → List Rule
+  listedRules x = listed r (x .first) (x .form) ∷ []
+
+  listed? : Listed → Bool
+  listed? x = inside? size (x .first) (x .form)
+
+  listed-find : (xs : List Listed) → every listed? xs ≡ true → Finds (firstFault (each (listedTests r) xs)) (rulesOf listedRules xs)
+  unfolding listed?
+  listed-find xs e =
+      finds-each (listedTests r) listedRules xs
+      (rowed listed? (λ (x : Listed). Finds (firstFault (listedTests r x)) (listedRules x))
+      (λ x q. listed-finds r (x .first) (x .form) (inside-is (x .first) (x .form) q)) xs e)
+
+  -- pairs, by the ranges of their slot
+  abbrev pairRules : declared.Pair → List Rule
+  pairRules x =
+      pair r (x .byte) (x .form) (slotOf (x .row) .least) (slotOf (x .row) .most) (slotOf (x .row) .shortest) (slotOf (x .row) .longest)
+
+  pair? : declared.Pair → Bool
+  pair? x = bothOf (inside? size (x .byte) I6) (bothOf (inside? size (x .byte + 6) (x .form)) (whole? (x .form)))
+
+  pairs-find : (xs : List declared.Pair) → every pair? xs ≡ true → Finds (firstFault (each (pairTests r) xs)) (rulesOf pairRules xs)
+  unfolding pairTests countAt pair?
+  pairs-find xs e =
+      finds-each (pairTests r) pairRules xs
+      (rowed pair? (λ (x : declared.Pair). Finds (firstFault (pairTests r x)) (pairRules x))
+      (λ x q.
+      let a = both-l (inside? size (x .byte) I6) _ q in
+      let b = both-r (inside? size (x .byte) I6) _ q in
+      pair-finds r (x .byte) (x .form) (inside-is (x .byte) I6 a)
+      (inside-is (x .byte + 6) (x .form) (both-l (inside? size (x .byte + 6) (x .form)) _ b))
+      (whole-is (x .form) (both-r (inside? size (x .byte + 6) (x .form)) _ b)) (slotOf (x .row) .least) (slotOf (x .row) .most) (slotOf (x .row) .shortest)
+      (slotOf (x .row) .longest)) xs e)
+
+-- ---- first records
+
+trailer-finds : (r : List ℕ) → length r ≡ 720 → Finds (firstFault (trailerTests r)) (firstBody trailer r)
+unfolding trailerTests firstFault placeOf
+trailer-finds r long = text-finds r 13 "A " Fine [] (omega arith) (λ e. finds-none)
+
+volume-finds : (r : List ℕ) → length r ≡ 360 → Finds (firstFault (volumeTests r)) (firstBody volume r)
+unfolding volumeTests firstFault placeOf numbered? inside? whole?
+volume-finds r long = text-finds r 13 "A " _ _ (omega arith) (λ e. numbers-find r 360 long volumeNumbers refl)
+
+leader-finds : (r : List ℕ) → length r ≡ 720 → Finds (firstFault (leaderTests r)) (firstBody leader r)
+unfolding leaderTests firstFault placeOf slotOf pair? inside? whole?
+leader-finds r long = text-finds r 13 "A " _ _ (omega arith) (λ e. pairs-find r 720 long pairs refl)
+
+-- what a field says is the number that is read
+module _ (r : List ℕ) (long : length r ≡ 720) where
+  reads : (byte : ℕ) (k : Form) → placeOf byte + widthOf k ≤ 720 → {n : ℕ} → SaysNumber r byte k n → numberAt r byte k ≡ n
+  reads byte k h {n} s = ap numberOf (field-reads r byte k (omega (arith, long)) (Written (pos n) (pos 0)) s)
+
+  -- the agreements, of numbers that the fields before them say
+  agree-find : (n l m w d s : ℕ) → SaysNumber r 181 I6 n → SaysNumber r 187 I6 l → SaysNumber r 237 I8 m → SaysNumber r 249 I8 w → SaysNumber r 281 I8 d
+      → SaysNumber r 289 I4 s → Finds (firstFault (agreements r)) (rules.agreements r)
+  unfolding agreeTests firstFault placeOf
+  agree-find n l m w d s hn hl hm hw hd hs =
+      let rn = reads 181 I6 (omega arith) hn in
+      let rl = reads 187 I6 (omega arith) hl in
+      let rm = reads 237 I8 (omega arith) hm in
+      let rw′ = reads 249 I8 (omega arith) hw in
+      let rd = reads 281 I8 (omega arith) hd in
+      let rs = reads 289 I4 (omega arith) hs in
+      exact (eqb (numberAt r 181 I6) (numberAt r 237 I8)) _ (agreement ((n : ℕ) × SaysNumber r 181 I6 n × SaysNumber r 237 I8 n)) _
+      (λ e. (n, hn, subst (SaysNumber r 237 I8) (sym rm ∙ sym (eqb-true _ _ e) ∙ rn) hm))
+      (λ h. eq-eqb _ _ (reads 181 I6 (omega arith) (h .1) ∙ sym (reads 237 I8 (omega arith) (h .2))))
+      (λ e.
+      exact (eqb (numberAt r 281 I8) (2 * numberAt r 249 I8)) _ (agreement ((w : ℕ) × SaysNumber r 249 I8 w × SaysNumber r 281 I8 (2 * w))) _
+      (λ e. (w, hw, subst (SaysNumber r 281 I8) (sym rd ∙ eqb-true _ _ e ∙ ap (λ (x : ℕ). 2 * x) rw′) hd))
+      (λ h. eq-eqb _ _ (reads 281 I8 (omega arith) (h .2) ∙ ap (λ (x : ℕ). 2 * x) (sym (reads 249 I8 (omega arith) (h .1)))))
+      (λ e.
+      exact (leb (192 + numberAt r 281 I8 + numberAt r 289 I4) (numberAt r 187 I6)) _
+      (agreement ((l : ℕ) × (d : ℕ) × (s : ℕ) × SaysNumber r 187 I6 l × SaysNumber r 281 I8 d × SaysNumber r 289 I4 s × (192 + d + s ≤ l))) _
+      (λ e. (l, d, s, hl, hd, hs, (let h = leb-true (192 + numberAt r 281 I8 + numberAt r 289 I4) (numberAt r 187 I6) e in omega (arith, rl, rd, rs))))
+      (λ h.
+      let a = reads 187 I6 (omega arith) (h .3) in
+      let b = reads 281 I8 (omega arith) (h .4) in
+      let c = reads 289 I4 (omega arith) (h .5) in
+      let room = h .6 in
+      le-leb (192 + numberAt r 281 I8 + numberAt r 289 I4) (numberAt r 187 I6) (omega (arith, a, b, c, room)))
+      (λ e. finds-none)))
+
+  image-finds : Finds (firstFault (imageTests r)) (firstBody image r)
+  unfolding imageTests firstFault placeOf numbered? inside? whole?
+  image-finds =
+      text-finds r 13 "A " _ _ (omega arith)
+      (λ e.
+      text-finds r 429 "IU2 " _ _ (omega arith)
+      (λ e.
+      let f = numbers-find r 720 long imageNumbers refl in
+      subst (λ (v : Verdict). Finds v (rulesOf (numberRules r 720 long) imageNumbers ++ rules.agreements r))
+      (sym (first-then (numbersTests r imageNumbers) (agreements r)))
+      (finds-then (firstFault (numbersTests r imageNumbers)) (firstFault (agreements r)) (rulesOf (numberRules r 720 long) imageNumbers)
+      (rules.agreements r) f
+      (λ q.
+      let h = f .fine q in
+      let h1 = h .1 .1 in
+      let h4 = h1 .1 .1 .1 .1 .1 .1 in
+      let h5 = h4 .1 .1 in
+      let h6 = h5 .1 .1 in
+      let h7 = h6 .1 .1 in
+      agree-find (h .1 .0 .0) (h1 .1 .0 .0) (h4 .1 .0 .0) (h5 .1 .0 .0) (h6 .1 .0 .0) (h7 .1 .0 .0) (h .1 .0 .1 .says) (h1 .1 .0 .1 .says)
+      (h4 .1 .0 .1 .says) (h5 .1 .0 .1 .says) (h6 .1 .0 .1 .says) (h7 .1 .0 .1 .says)))))
+
+-- ---- the records behind the first
+
+pointer-finds : (m k : ℕ) (r : List ℕ) → length r ≡ 360 → Finds (firstFault (pointerTests m k r)) (pointerBody m k r)
+unfolding pointerTests firstFault placeOf numbered? inside? whole?
+pointer-finds m k r long =
+    let c = class-text m k r long in
+    exact (textAt r 64 (classText m k)) _ (rules.text r 65 (classOf m k)) _ (c .0) (c .1) (λ e. numbers-find r 360 long pointerNumbers refl)
+
+summary-finds : (k : ℕ) (r : List ℕ) → length r ≡ 4096 → Finds (firstFault (fieldsTests r 0 10)) (summaryBody k r)
+unfolding fieldsTests listed? inside? placeOf
+summary-finds k r long = listed-find r 4096 long (slice 0 10 table) refl
+
+map-finds : (k : ℕ) (r : List ℕ) → length r ≡ 1620 → Finds (firstFault (fieldsTests r 10 13)) (mapBody k r)
+unfolding fieldsTests listed? inside? placeOf
+map-finds k r long = listed-find r 1620 long (slice 10 13 table) refl
+
+line-finds : (w k : ℕ) (r : List ℕ) → Finds (firstFault (lineTests w k r)) (lineBody w k r)
+unfolding lineTests firstFault
+line-finds w k r =
+    exact (eqb (fourAt r (placeOf 13)) k) _ (rules.rule 10 13 (fourAt r (placeOf 13) ≡ k)) _ (eqb-true _ _) (eq-eqb _ _)
+    (λ e.
+    exact (eqb (fourAt r (placeOf 17)) 1) _ (rules.rule 10 17 (fourAt r (placeOf 17) ≡ 1)) _ (eqb-true _ _) (eq-eqb _ _)
+    (λ e.
+    exact (eqb (fourAt r (placeOf 21) + fourAt r (placeOf 25) + fourAt r (placeOf 29)) w) _
+    (rules.rule 10 21 (fourAt r (placeOf 21) + fourAt r (placeOf 25) + fourAt r (placeOf 29) ≡ w)) _ (eqb-true _ _) (eq-eqb _ _) (λ e. finds-none)))
+
+-- ---- each kind and run
+
+-- the rules of a record's body, by its run behind the first
+abbrev pub bodyBy : Kind → Plan → ℕ → ℕ → List ℕ → List Rule
+bodyBy volume p zero = nothing
+bodyBy volume p (suc zero) = pointerBody (p .pointers)
+bodyBy volume p (suc (suc i)) = nothing
+bodyBy leader p zero = nothing
+bodyBy leader p (suc zero) = summaryBody
+bodyBy leader p (suc (suc zero)) = mapBody
+bodyBy leader p (suc (suc (suc i))) = nothing
+bodyBy image p run = lineBody (p .w)
+bodyBy trailer p run = nothing
+
+fine-finds : {v : Verdict} → v ≡ Fine → Finds v []
+fine-finds e = subst (λ (v : Verdict). Finds v []) (sym e) finds-none
+
+-- a record of a run whose fields lie in it
+pub body-finds : (kind : Kind) (p : Plan) (run k : ℕ) (r : List ℕ) → Long kind run (length r)
+    → Finds (bodyOf (kindNumber kind) run p k r) (bodyBy kind p run k r)
+unfolding bodyOf bodyTests volumeRecord leaderRecord imageRecord
+body-finds volume p zero k r h = absurd h
+body-finds volume p (suc zero) k r h = pointer-finds (p .pointers) k r h
+body-finds volume p (suc (suc i)) k r h = fine-finds (other-volume p i k r)
+body-finds leader p zero k r h = absurd h
+body-finds leader p (suc zero) k r h = summary-finds k r h
+body-finds leader p (suc (suc zero)) k r h = map-finds k r h
+body-finds leader p (suc (suc (suc i))) k r h = fine-finds (other-leader p i k r)
+body-finds image p zero k r h = absurd h
+body-finds image p (suc i) k r h = subst (λ (v : Verdict). Finds v (lineBody (p .w) k r)) (sym (of-line p i k r)) (line-finds (p .w) k r)
+body-finds trailer p run k r h = absurd h
+
+-- a first record of the kind's length
+pub first-finds : (kind : Kind) (p : Plan) (k : ℕ) (r : List ℕ) → length r ≡ firstLength (kindNumber kind)
+    → Finds (bodyOf (kindNumber kind) 0 p k r) (firstBody kind r)
+unfolding bodyOf bodyTests volumeRecord leaderRecord imageRecord firstLength
+first-finds volume p k r h = volume-finds r h
+first-finds leader p k r h = leader-finds r h
+first-finds image p k r h = image-finds r h
+first-finds trailer p k r h = trailer-finds r h
