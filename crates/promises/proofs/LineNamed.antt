@@ -39,10 +39,10 @@ use Rattle.promises.proofs.Parts.{header-four}
 use Rattle.promises.proofs.PlanNamed.{plan-named}
 
 -- line k's record as it is due
-abbrev lineAs : Plan → ℕ → Due
+abbrev pub lineAs : Plan → ℕ → Due
 lineAs p k = record { ordinal = k + 1; run = 1; codes = lineCodes 0; length = p .l; start = lineStart p k }
 
-as-due : (p : Plan) (k : ℕ) → 1 ≤ k → k ≤ p .n → dueOf image′ p k ≡ lineAs p k
+pub as-due : (p : Plan) (k : ℕ) → 1 ≤ k → k ≤ p .n → dueOf image′ p k ≡ lineAs p k
 as-due p zero a b = absurd (omega arith)
 as-due p (suc j) a b =
     line-due p j (omega arith)
@@ -133,7 +133,7 @@ shown-first g bs k start count left e = go (firstOf bs .stop) refl e
     go Complete q e = absurd (open-never-complete 1 (fresh image′) bs q)
     go (Refused′ r) q e = absurd (refused≢shown _ _ _ _ e)
 
-first-there : (bs : List ℕ) → firstOf bs .stop ≡ Pause → ImageDescriptor (take 720 bs) (firstOf bs .state .plan)
+pub first-there : (bs : List ℕ) → firstOf bs .stop ≡ Pause → ImageDescriptor (take 720 bs) (firstOf bs .state .plan)
 unfolding firstLength
 first-there bs e = plan-named image bs false 1 (λ z. let m = pause-counted 1 (fresh image′) bs false e in omega arith)
 

@@ -90,11 +90,15 @@ volume-total : (p : Plan) → totalOf volume′ p ≡ p .pointers + 2
 unfolding totalOf sumOf runCounts
 volume-total p = omega arith
 
+-- a budget of nine never stops it
+pub directory-pauses : (bs : List ℕ) → directory bs .stop ≡ Pause → ⊥
+directory-pauses bs e =
+    enough volume′ 9 bs true (let t = volume-total (directory bs .state .plan) in let f = few-pointers bs in omega arith) e
+
 -- closed, with a budget of nine, it is complete or refused
 directory-ends : (bs : List ℕ) (x : Stop) → directory bs .stop ≡ x → (a : Agreement) → behindWalk x a ≡ Agrees → (x ≡ Complete) × (a ≡ Agrees)
 directory-ends bs (Wait n) e a q = absurd (closed-never-waits 9 (fresh volume′) bs n e)
-directory-ends bs Pause e a q =
-    absurd (enough volume′ 9 bs true (let t = volume-total (directory bs .state .plan) in let f = few-pointers bs in omega arith) e)
+directory-ends bs Pause e a q = absurd (directory-pauses bs e)
 directory-ends bs Complete e a q = (refl, q)
 directory-ends bs (Refused′ r) e a q = absurd (refused≢agrees r q)
 
@@ -108,7 +112,7 @@ module _ (bs : List ℕ) (a : Accepted volume bs) where
       (a .begins)
 
   -- a file of the rules has at most eight records
-  directory-complete : directory bs .stop ≡ Complete
+  pub directory-complete : directory bs .stop ≡ Complete
   directory-complete =
       accepted-complete-records volume bs a 9
       (let f = follow-length 1 (promised volume (a .plan)) (a .rest) (a .follows) in
@@ -118,7 +122,7 @@ module _ (bs : List ℕ) (a : Accepted volume bs) where
       omega arith)
 
   -- its pointer count is the one that the walk has
-  directory-pointers : directory bs .state .plan .pointers ≡ a .plan .pointers
+  pub directory-pointers : directory bs .state .plan .pointers ≡ a .plan .pointers
   directory-pointers =
       let st = fresh volume′ in
       let t = first-passes volume bs (a .plan) begins true in
@@ -128,7 +132,7 @@ module _ (bs : List ℕ) (a : Accepted volume bs) where
 
   -- pointer i (from 0) is a record of its own, and its count stands where the check reads it
   module _ (i : ℕ) (h : i < a .plan .pointers) where
-    found : At 1 i (pointer (a .plan .pointers)) (a .rest)
+    pub found : At 1 i (pointer (a .plan .pointers)) (a .rest)
     found = uniform (a .plan .pointers) 1 i (pointer (a .plan .pointers)) (textRecord ∷ []) (a .rest) (a .follows) h
 
     record-at : getD (a .rest) i [] ≡ take 360 (drop (360 + i * 360) bs)
@@ -156,7 +160,7 @@ module _ (bs : List ℕ) (a : Accepted volume bs) where
     count-held = let r = record-there in let l = length-drop (360 + i * 360) bs in let c = count-place in omega arith
 
     -- what the rules name as its count is what is read there
-    count-is : (n : ℕ) → Numbered (getD (a .rest) i []) 101 I8 1 99999999 n → countOf bs (1 + i) ≡ n
+    pub count-is : (n : ℕ) → Numbered (getD (a .rest) i []) 101 I8 1 99999999 n → countOf bs (1 + i) ≡ n
     unfolding countOf
     count-is n q =
         number-reads bs (countByte (1 + i)) I8 count-held refl 1 99999999 n

@@ -29,7 +29,7 @@ use Rattle.refusals.specs.Refusals.{Asked, AllHold, FirstWrong, header, 
 use Rattle.refusals.proofs.Finds.{Finds, finds-fine, finds-fault}
 
 -- a refusal by its numbers
-same-refusal : (x : Refusal) {o p : ℕ} → x .«record» ≡ o → x .place ≡ p → record { number = x .number; «record» = o; place = p } ≡ x
+pub same-refusal : (x : Refusal) {o p : ℕ} → x .«record» ≡ o → x .place ≡ p → record { number = x .number; «record» = o; place = p } ≡ x
 same-refusal x e f = ap₂ (λ (o p : ℕ). record { number = x .number; «record» = o; place = p }) (sym e) (sym f)
 
 -- too few bytes: refused exactly where the file is closed

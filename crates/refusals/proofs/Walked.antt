@@ -1,15 +1,14 @@
 -- `refused-exactly`: a walk from a fresh state that does not pause is refused, with its number, record and place, exactly where `Refusals` says that the
 -- bytes are; by induction over the budget one way, over the records before the refused one the other.
 use Prim.Native.Nat.{ℕ, zero, suc, _+_, _≤_, _<_}
-use mathlib.Core.Path.{_≡_, refl, sym, ap, ap₂, _∙_, subst}
+use mathlib.Core.Path.{_≡_, refl, sym, ap, _∙_, subst}
 use mathlib.Core.Logic.{_↔_, _≢_}
 use mathlib.Core.List.{List, [], _∷_, _++_, append-assoc}
 use mathlib.Core.Bool.{Bool, true}
 use native.Mathlib.Omega.{arith}
-use lib.IntN.{pos}
 use lib.ListN.{length, take, drop, take-append-drop, length-append, length-drop}
 use lib.Seq.{take-at, drop-at, length-take-le}
-use Rattle.words.specs.Answer.{Answer, refusedAs}
+use Rattle.words.specs.Answer.{refusedAs}
 use Rattle.words.specs.declared.Refusal.{Refusal}
 use Rattle.plan.specs.Tables.{rows}
 use Rattle.plan.specs.Plan.{firstLength, spotOf, totalOf, planGood, zeroPlan}
@@ -20,8 +19,7 @@ use Rattle.walk.specs.Walk.{turnOf, nextOf, walkOf}
 use Rattle.walk.specs.declared.State.{State}
 use Rattle.walk.specs.declared.Walked.{Walked}
 use Rattle.walk.proofs.LoopLaws.{walk-pause, walk-halt, walk-pass}
-use Rattle.turns.specs.declared.Stop.{Stop}
-use Rattle.turns.specs.declared.Stop.the-variants.{Wait, Pause, Complete, Refused}
+use Rattle.turns.specs.declared.Stop.the-variants.{Pause, Refused}
 use Rattle.turns.specs.declared.Turn.{Turn}
 use Rattle.turns.specs.declared.Turn.the-variants.{Pass, Halt}
 use Rattle.turns.proofs.TurnLaws.{one-total, pass-going}
@@ -34,32 +32,15 @@ use Rattle.promises.proofs.Least.{spot-least}
 use Rattle.promises.proofs.Passing.{pass-is}
 use Rattle.promises.proofs.AnyEdition.{first-size, same-promised}
 use Rattle.promises.proofs.FirstIs.{first-is, first-names}
+use Rattle.promises.proofs.FirstPasses.{one-turn}
 use Rattle.promises.proofs.LaterIs.{due, dueAt, Judged, later-is}
 use Rattle.promises.proofs.Accepts.{behind, good-behind, next-behind, one-due, due-some, good-fresh, planned, next-fresh, fresh-is, plan-good, plan-counts, plan-lengths}
 use Rattle.refusals.specs.Refusals.{Asked, firstAsked, laterAsked, Wrong, Before, none, some, Refuses}
+use Rattle.refusals.proofs.Said.{said-refused}
 use Rattle.refusals.proofs.AskedIs.{later-told, first-told, same-asked}
 
 stop-of : (w v : Walked) → w ≡ v → w .stop ≡ v .stop
 stop-of w v e = ap (λ (x : Walked). x .stop) e
-
--- the words of a refusal stand for one stop
-pos-same : {m n : ℕ} → pos m ≡ pos n → m ≡ n
-pos-same e = cc
-
-refusal-said : (y x : Refusal) → refusedAs y ≡ refusedAs x → y ≡ x
-refusal-said y x e =
-    let ns = ap (λ (a : Answer). a .numbers) e in
-    let a : y .number ≡ x .number = pos-same cc in
-    let b : y .«record» ≡ x .«record» = pos-same cc in
-    let c : y .place ≡ x .place = pos-same cc in
-    ap (λ (n : ℕ). record { number = n; «record» = y .«record»; place = y .place }) a
-    ∙ ap₂ (λ (r p : ℕ). record { number = x .number; «record» = r; place = p }) b c
-
-said-refused : (y : Stop) (x : Refusal) → stopAs y ≡ refusedAs x → y ≡ Refused x
-said-refused (Wait n) x e = absurd (let w = ap (λ (a : Answer). a .word) e in let z : _≡_ {A = ℕ} 0 1 = cc in omega arith)
-said-refused Pause x e = absurd (let w = ap (λ (a : Answer). a .word) e in let z : _≡_ {A = ℕ} 0 1 = cc in omega arith)
-said-refused Complete x e = absurd (let w = ap (λ (a : Answer). a .word) e in let z : _≡_ {A = ℕ} 0 1 = cc in omega arith)
-said-refused (Refused y) x e = ap Refused (refusal-said y x e)
 
 -- ---- behind the first record
 
@@ -286,6 +267,27 @@ module _ (kind : Kind) (bs : List ℕ) (c : Bool) (x : Refusal) where
       go k start left next (some p r rs f g ek es are en) w o a =
           some-from p r rs left f g are (y .at) (subst (λ (i : ℕ). Wrong c i left (x .number) (y .at) (drop (length rs) (laterAsked kind p))) ek
           (subst (Wrong c k left (x .number) (y .at)) en w)) (o ∙ ap suc ek) (a ∙ ap (λ (i : ℕ). i + y .at) es) n t
+
+-- the first record alone
+pub first-refused : (kind : Kind) (bs : List ℕ) (c : Bool) (x : Refusal)
+    → (walkOf 1 (fresh (kindNumber kind)) bs c .stop ≡ Refused x) ↔ (Wrong c 0 bs (x .number) (x .place) (firstAsked kind ∷ []) × (x .«record» ≡ 1))
+unfolding spotOf
+first-refused kind bs c x = (λ e. go e (turnOf (fresh (kindNumber kind)) bs c) refl, λ h. none-from kind bs c x 1 (h .0) (h .1) (halts h))
+  where
+    go : walkOf 1 (fresh (kindNumber kind)) bs c .stop ≡ Refused x → (t : Turn) → turnOf (fresh (kindNumber kind)) bs c ≡ t
+        → Wrong c 0 bs (x .number) (x .place) (firstAsked kind ∷ []) × (x .«record» ≡ 1)
+    go e Pass q = absurd (pause≢refused (sym (stop-of _ _ (one-turn (fresh (kindNumber kind)) bs c (good-fresh kind) q)) ∙ e))
+    go e (Halt y) q =
+        let z : y ≡ Refused x = sym (stop-of _ _ (walk-halt (fresh (kindNumber kind)) bs c 0 y (good-fresh kind) q)) ∙ e in
+        let t = first-told kind bs c x .0 (q ∙ ap Halt z) in
+        let a : t .0 ≡ x .place = (let b = t .3 in omega arith) in
+        (subst (λ (i : ℕ). Wrong c 0 bs (x .number) i (firstAsked kind ∷ [])) a (t .1), t .2)
+
+    halts : Wrong c 0 bs (x .number) (x .place) (firstAsked kind ∷ []) × (x .«record» ≡ 1) → walkOf 1 (fresh (kindNumber kind)) bs c .stop ≢ Pause
+    halts h e =
+        let a : x .place ≡ 0 + x .place = omega arith in
+        let t = first-told kind bs c x .1 (x .place, h .0, h .1, a) in
+        pause≢refused (sym e ∙ stop-of _ _ (walk-halt (fresh (kindNumber kind)) bs c 0 (Refused x) (good-fresh kind) t))
 
 -- for any bytes, open or closed, and any budget that does not stop the walk: refused so exactly where the rules say so
 pub refused-exactly : (kind : Kind) (bs : List ℕ) (c : Bool) (n : ℕ) → walkOf n (fresh (kindNumber kind)) bs c .stop ≢ Pause → (x : Refusal)
