@@ -14,7 +14,7 @@ use Rattle.words.specs.Tests.{pick, withinOf}
 use Rattle.words.specs.Answer.{bareRefusal, refusedAs}
 use Rattle.words.specs.declared.Refusal.{Refusal}
 use Rattle.words.proofs.Laws.{within-true, within-false, true-within}
-use Rattle.plan.specs.Plan.{group, dueOf, lineCodes, firstLength} 
+use Rattle.plan.specs.Plan.{group, dueOf, lineCodes, firstLength}
 use Rattle.plan.specs.Plan as plan
 use Rattle.plan.specs.declared.Plan.{Plan}
 use Rattle.plan.specs.declared.Due.{Due}

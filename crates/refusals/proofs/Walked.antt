@@ -169,7 +169,7 @@ module _ (kind : Kind) (p : Plan) (good : planGood (kindNumber kind) p ≡ true)
 -- ---- from the first record on
 
 module _ (kind : Kind) (bs : List ℕ) (c : Bool) (x : Refusal) where
-  refused-to : (n : ℕ) → walkOf n (fresh (kindNumber kind)) bs c .stop ≡ Refused x → Refuses kind c bs x
+  pub refused-to : (n : ℕ) → walkOf n (fresh (kindNumber kind)) bs c .stop ≡ Refused x → Refuses kind c bs x
   unfolding spotOf
   refused-to zero e = absurd (pause≢refused (sym (stop-of _ _ (walk-pause (fresh (kindNumber kind)) bs c (good-fresh kind))) ∙ e))
   refused-to (suc n) e = go (turnOf (fresh (kindNumber kind)) bs c) refl
@@ -253,7 +253,7 @@ module _ (kind : Kind) (bs : List ℕ) (c : Bool) (x : Refusal) where
         ∙ later-refused kind q good (plan-counts kind (take l bs)) (plan-lengths kind (take l bs)) c rs n 0 left at x (one-total k q) follows′ wrong′
         (ordinal ∙ ap (λ (m : ℕ). suc (suc m)) i) (place ∙ omega (arith, size, end-to-end k q 0)) (λ s. t (same ∙ s))
 
-  refused-from : (n : ℕ) → walkOf n (fresh (kindNumber kind)) bs c .stop ≢ Pause → Refuses kind c bs x → walkOf n (fresh (kindNumber kind)) bs c .stop ≡ Refused x
+  pub refused-from : (n : ℕ) → walkOf n (fresh (kindNumber kind)) bs c .stop ≢ Pause → Refuses kind c bs x → walkOf n (fresh (kindNumber kind)) bs c .stop ≡ Refused x
   refused-from n t y = go (y .passed) (y .start) (y .left) (y .next) (y .before) (y .wrong) (y .ordinal) (y .place)
     where
       go : (k start : ℕ) (left : List ℕ) (next : List Asked) → Before kind bs k start left next → Wrong c k left (x .number) (y .at) next
