@@ -52,3 +52,23 @@ spelt (suc w) n =
 
 pub columns-bytes : (w n : ℕ) → Bytes (columns w n)
 columns-bytes w n = numeral-bytes (columns w n) (spelt w n .digits)
+
+-- digits alone are a whole number
+columns-good : (w n : ℕ) → 1 ≤ w → n < 10 ^ w → Good Whole (columns w n) (Number (pos n) (pos 0))
+columns-good w n h l =
+    let s = spelt w n in
+    subst (λ (m : ℕ). Good Whole (columns w n) (Number (pos m) (pos 0))) (s .value l)
+    (Good.whole (WholeNumber.whole 0 (columns w n) bare (s .digits) (let e = s .size in omega arith)))
+
+-- a field of those bytes says the number, and lies in a range that its columns hold
+module _ (r : List ℕ) (byte : ℕ) (k : Form) (plain : shapeOf k ≡ Whole) (wide : 1 ≤ widthOf k) (lo hi n : ℕ) (short : hi < 10 ^ widthOf k) where
+  pub numbered : fieldBytes r (placeOf byte) k ≡ columns (widthOf k) n → lo ≤ n → n ≤ hi → Numbered r byte k lo hi n
+  numbered e l h =
+      record {
+        says = subst (λ (bs : List ℕ). grammar.WellWritten k bs (Number (pos n) (pos 0))) (sym e) (
+          spelt (widthOf k) n .size,
+          subst (λ (s : Shape). Good s (columns (widthOf k) n) (Number (pos n) (pos 0))) (sym plain) (columns-good (widthOf k) n wide (omega arith)),
+        );
+        least = l;
+        most = h;
+      }
