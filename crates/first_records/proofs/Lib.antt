@@ -2,3 +2,7 @@
 pub mod Columns
 pub mod Headed
 pub mod NamedVolume
+pub mod NamedTrailer
+pub mod NamedImage
+pub mod Stands
+pub mod Pairs

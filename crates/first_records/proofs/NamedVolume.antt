@@ -13,7 +13,7 @@ use Rattle.promises.specs.Newest.{VolumeDescriptor}
 use Rattle.promises.specs.Rules.{Kind, volume}
 use Rattle.promises.specs.Bytes.{Bytes}
 use Rattle.promises.specs.Witness.{four, made, blanks, firstOf}
-use Rattle.promises.proofs.Made.{Each}
+use Rattle.promises.proofs.WitnessFirst.{blank}
 use Rattle.first_records.specs.Allowed.{AllowedVolume}
 use Rattle.first_records.specs.FirstRecord.{columns, volumeWritten, recordOf}
 use Rattle.first_records.proofs.Columns.{numbered, columns-bytes}
@@ -28,3 +28,7 @@ module _ (p : Plan) where
         ab = refl;
         pointers = numbered (recordOf volume p) 161 I4 refl (omega arith) 3 6 (p .pointers) (omega arith) refl (a .pointers .low) (a .pointers .high);
       }
+
+  pub volume-bytes : Bytes (recordOf volume p)
+  unfolding recordOf volumeWritten
+  volume-bytes = first-bytes volume (volumeWritten p) (omega arith, (blank 146, (columns-bytes 4 (p .pointers), (blank 196, tt))))
