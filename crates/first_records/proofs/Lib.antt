@@ -6,3 +6,5 @@ pub mod NamedTrailer
 pub mod NamedImage
 pub mod Stands
 pub mod Pairs
+pub mod NamedLeader
+pub mod AllowedIs
