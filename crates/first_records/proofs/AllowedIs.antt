@@ -1,10 +1,11 @@
 -- `allowed-is`: the state rule's tests of a plan hold exactly where the plan is allowed, test by test; a leader's rows by one law over the row.
-use Prim.Native.Nat.{ℕ, zero, suc, _+_, _≤_, _<_}
+use Prim.Native.Nat.{ℕ, zero, suc, _+_, _*_, _≤_, _<_}
 use mathlib.Core.Path.{_≡_, refl, sym, ap, _∙_, subst}
 use mathlib.Core.List.{List, [], _∷_}
 use mathlib.Core.Bool.{Bool, true, false}
 use mathlib.Core.Logic.{_↔_}
 use native.Mathlib.Omega.{arith}
+use native.Mathlib.Nat.{zero-add}
 use lib.Dec.{eqb, leb}
 use lib.ListN.{getD, replicate, getD-replicate}
 use lib.Seq.{getD-append-add}
@@ -84,3 +85,106 @@ facility-row i h =
     getD-append-add (slot 10 1 1 4096 4096 ∷ slot 20 0 1 1620 1620 ∷ slot 30 0 9 12 999999 ∷ slot 40 0 9 12 999999 ∷ slot 50 0 9 12 999999
     ∷ slot 60 0 9 12 999999 ∷ []) (replicate 11 facility) i (slot 0 0 0 0 0)
     ∙ getD-replicate 11 i facility (slot 0 0 0 0 0) h
+
+-- a property of every row: of the six slots, and of the facility rows
+by-row : (P : ℕ → Type 0) → P 0 → P 1 → P 2 → P 3 → P 4 → P 5 → ((i : ℕ) → i < 11 → P (6 + i)) → (i : ℕ) → i < rows → P i
+by-row P a b c d e f g zero h = a
+by-row P a b c d e f g (suc zero) h = b
+by-row P a b c d e f g (suc (suc zero)) h = c
+by-row P a b c d e f g (suc (suc (suc zero))) h = d
+by-row P a b c d e f g (suc (suc (suc (suc zero)))) h = e
+by-row P a b c d e f g (suc (suc (suc (suc (suc zero))))) h = f
+by-row P a b c d e f g (suc (suc (suc (suc (suc (suc i)))))) h = subst P (let q : 6 + i ≡ suc (suc (suc (suc (suc (suc i))))) = omega arith in q) (g i (omega arith))
+
+module _ (p : Plan) where
+  abbrev Good : ℕ → Type 0
+  Good i = slotGood i (getD (p .counts) i 0) (getD (p .lengths) i 0) ≡ true
+
+  -- row i under the ranges of a slot
+  abbrev Ranged : ℕ → Slot → Type 0
+  Ranged i s = RowOf p i (s .least) (s .most) (s .shortest) (s .longest)
+
+  each-row : (slotsGood 0 rows (p .counts) (p .lengths) ≡ true) ↔ ((i : ℕ) → i < rows → Good i)
+  each-row = (
+    λ e i h. subst Good (zero-add i) (slot-each 0 rows (p .counts) (p .lengths) e i h),
+    λ f. slots-good 0 rows (p .counts) (p .lengths) (λ k l u. f k u),
+  )
+
+  ranged : (i : ℕ) → Good i ↔ Ranged i (slotOf i)
+  ranged i = row-is i (getD (p .counts) i 0) (getD (p .lengths) i 0)
+
+  volume-is : (volumeGood p ≡ true) ↔ AllowedVolume p
+  unfolding volumeGood
+  volume-is =
+      let b = both-is (within-is 3 (p .pointers) 6) (both-is (rows-is p) (lines-is p)) in (
+        λ e. let h = b .0 e in record { pointers = h .0; rows = h .1 .0; lines = h .1 .1 },
+        λ a. b .1 (a .pointers, (a .rows, a .lines)),
+      )
+
+  leader-is : (leaderGood p ≡ true) ↔ AllowedLeader p
+  unfolding leaderGood slotOf
+  leader-is =
+      let b = both-is (equal-is (p .pointers) 0) (both-is each-row (lines-is p)) in (
+        λ e.
+            let h = b .0 e in
+            let row : (i : ℕ) → i < rows → Ranged i (slotOf i) = λ i l. ranged i .0 (h .1 .0 i l) in
+            record {
+              pointers = h .0;
+              slot1 = row 0 (omega arith);
+              slot2 = row 1 (omega arith);
+              slot3 = row 2 (omega arith);
+              slot4 = row 3 (omega arith);
+              slot5 = row 4 (omega arith);
+              slot7 = row 5 (omega arith);
+              facilities = λ i l. subst (Ranged (6 + i)) (facility-row i l) (row (6 + i) (omega arith));
+              lines = h .1 .1;
+            },
+        λ a. b .1 (
+          a .pointers,
+          (
+            by-row Good (ranged 0 .1 (a .slot1)) (ranged 1 .1 (a .slot2)) (ranged 2 .1 (a .slot3)) (ranged 3 .1 (a .slot4)) (ranged 4 .1 (a .slot5))
+                (ranged 5 .1 (a .slot7)) (λ i l. ranged (6 + i) .1 (subst (Ranged (6 + i)) (sym (facility-row i l)) (a .facilities i l))),
+            a .lines,
+          ),
+        ),
+      )
+
+  image-is : (imageGood p ≡ true) ↔ AllowedImage p
+  unfolding imageGood
+  image-is =
+      let ranges = both-is (within-is 1 (p .n) 999999) (both-is (within-is 1 (p .l) 999999) (both-is (within-is 1 (p .w) 99999999)
+          (both-is (within-is 1 (p .d) 99999999) (within-is 0 (p .s) 9999)))) in
+      let b = both-is (both-is (equal-is (p .pointers) 0) (rows-is p))
+          (both-is ranges (both-is (equal-is (p .d) (2 * p .w)) (most-is (192 + p .d + p .s) (p .l)))) in (
+        λ e.
+            let h = b .0 e in
+            let g = h .1 .0 in
+            record {
+              pointers = h .0 .0;
+              rows = h .0 .1;
+              n = g .0;
+              L = g .1 .0;
+              w = g .1 .1 .0;
+              d = g .1 .1 .1 .0;
+              s = g .1 .1 .1 .1;
+              paired = h .1 .1 .0;
+              room = h .1 .1 .1;
+            },
+        λ a. b .1 ((a .pointers, a .rows), ((a .n, (a .L, (a .w, (a .d, a .s)))), (a .paired, a .room))),
+      )
+
+  trailer-is : (zeroPlan? p ≡ true) ↔ AllowedTrailer p
+  unfolding zeroPlan?
+  trailer-is =
+      let b = both-is (equal-is (p .pointers) 0) (both-is (rows-is p) (lines-is p)) in (
+        λ e. let h = b .0 e in record { pointers = h .0; rows = h .1 .0; lines = h .1 .1 },
+        λ a. b .1 (a .pointers, (a .rows, a .lines)),
+      )
+
+-- the state rule's part on plans, in plain words
+pub allowed-is : (kind : Kind) (p : Plan) → (planGood (kindNumber kind) p ≡ true) ↔ Allowed kind p
+unfolding planGood
+allowed-is volume p = volume-is p
+allowed-is leader p = leader-is p
+allowed-is image p = image-is p
+allowed-is trailer p = trailer-is p
