@@ -20,7 +20,7 @@ use Rattle.plan.proofs.Bounds.{zero-each, slot-each}
 use Rattle.bodies.proofs.Named.{slot-good, slots-good}
 use Rattle.promises.specs.Rules.{Kind, volume, leader, image, trailer, kindNumber}
 use Rattle.promises.proofs.Each.{each-at, next}
-use Rattle.first_records.specs.Allowed.{Within, Row, RowOf, NoRows, NoLines, AllowedVolume, AllowedLeader, AllowedImage, AllowedTrailer, Allowed}
+use Rattle.first_records.specs.Allowed.{Within, Row, RowOf, NoRows, NoLines, AllowedVolume, AllowedLeader, AllowedImage, Zeros, Allowed}
 
 -- both tests, and both facts
 both-is : {a b : Bool} {A B : Type 0} → (a ≡ true) ↔ A → (b ≡ true) ↔ B → (bothOf a b ≡ true) ↔ (A × B)
@@ -153,9 +153,9 @@ module _ (p : Plan) where
   unfolding imageGood
   image-is =
       let ranges = both-is (within-is 1 (p .n) 999999) (both-is (within-is 1 (p .l) 999999) (both-is (within-is 1 (p .w) 99999999)
-          (both-is (within-is 1 (p .d) 99999999) (within-is 0 (p .s) 9999)))) in
+      (both-is (within-is 1 (p .d) 99999999) (within-is 0 (p .s) 9999)))) in
       let b = both-is (both-is (equal-is (p .pointers) 0) (rows-is p))
-          (both-is ranges (both-is (equal-is (p .d) (2 * p .w)) (most-is (192 + p .d + p .s) (p .l)))) in (
+      (both-is ranges (both-is (equal-is (p .d) (2 * p .w)) (most-is (192 + p .d + p .s) (p .l)))) in (
         λ e.
             let h = b .0 e in
             let g = h .1 .0 in
@@ -173,9 +173,9 @@ module _ (p : Plan) where
         λ a. b .1 ((a .pointers, a .rows), ((a .n, (a .L, (a .w, (a .d, a .s)))), (a .paired, a .room))),
       )
 
-  trailer-is : (zeroPlan? p ≡ true) ↔ AllowedTrailer p
+  pub zeros-are : (zeroPlan? p ≡ true) ↔ Zeros p
   unfolding zeroPlan?
-  trailer-is =
+  zeros-are =
       let b = both-is (equal-is (p .pointers) 0) (both-is (rows-is p) (lines-is p)) in (
         λ e. let h = b .0 e in record { pointers = h .0; rows = h .1 .0; lines = h .1 .1 },
         λ a. b .1 (a .pointers, (a .rows, a .lines)),
@@ -187,4 +187,4 @@ unfolding planGood
 allowed-is volume p = volume-is p
 allowed-is leader p = leader-is p
 allowed-is image p = image-is p
-allowed-is trailer p = trailer-is p
+allowed-is trailer p = zeros-are p

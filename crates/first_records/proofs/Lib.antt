@@ -8,3 +8,5 @@ pub mod Stands
 pub mod Pairs
 pub mod NamedLeader
 pub mod AllowedIs
+pub mod AllowedNamed
+pub mod StateRule

@@ -127,10 +127,15 @@ module _ (p : Plan) (counts : length (p .counts) ≡ rows) (lengths : length (p 
         facilities = λ i l. facility i l (a .facilities i l);
       }
 
-  pub leader-bytes : Bytes (recordOf leader p)
-  unfolding recordOf leaderWritten
-  leader-bytes = first-bytes leader (leaderWritten p) (
-    omega arith,
-    (blank 166, (pairs-bytes 6 (fifteen (p .counts)) (fifteen (p .lengths)),
-        (blank 60, (pairs-bytes 8 (eleven (p .counts)) (eleven (p .lengths)), (blank 146, tt))))),
-  )
+pub leader-bytes : (p : Plan) → Bytes (recordOf leader p)
+unfolding recordOf leaderWritten
+leader-bytes p = first-bytes leader (leaderWritten p) (
+  omega arith,
+  (
+    blank 166,
+    (
+      pairs-bytes 6 (fifteen (p .counts)) (fifteen (p .lengths)),
+      (blank 60, (pairs-bytes 8 (eleven (p .counts)) (eleven (p .lengths)), (blank 146, tt))),
+    ),
+  ),
+)

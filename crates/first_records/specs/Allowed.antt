@@ -64,8 +64,8 @@ pub record AllowedImage (p : Plan) : Type 0 where
   pub paired : p .d ≡ 2 * p .w
   pub room : 192 + p .d + p .s ≤ p .l
 
--- trailer: all zeros
-pub record AllowedTrailer (p : Plan) : Type 0 where
+-- all zeros: a trailer's plan, and that of a state that has passed nothing
+pub record Zeros (p : Plan) : Type 0 where
   pub pointers : p .pointers ≡ 0
   pub rows : NoRows p
   pub lines : NoLines p
@@ -75,4 +75,4 @@ abbrev pub Allowed : Kind → Plan → Type 0
 Allowed volume p = AllowedVolume p
 Allowed leader p = AllowedLeader p
 Allowed image p = AllowedImage p
-Allowed trailer p = AllowedTrailer p
+Allowed trailer p = Zeros p

@@ -1,0 +1,26 @@
+-- The state rule both ways (document 01, "Refusal numbers", end): a plan that some first record names, and a state that a walk may have. Assumes nothing.
+use Prim.Native.Nat.{ℕ, _+_, _≤_}
+use mathlib.Core.Path.{_≡_}
+use mathlib.Core.List.{List}
+use mathlib.Core.Logic.{_⊎_}
+use lib.ListN.{length}
+use Rattle.plan.specs.declared.Plan.{Plan}
+use Rattle.bodies.specs.Named.{planOf}
+use Rattle.walk.specs.declared.State.{State}
+use Rattle.promises.specs.Bytes.{Bytes}
+use Rattle.promises.specs.Rules.{Kind, kindNumber}
+use Rattle.promises.specs.Newest.{First, promised}
+use Rattle.first_records.specs.Allowed.{Zeros}
+
+-- some bytes are a first record of the kind that names the plan, with 0 for each number that the kind does not use
+abbrev pub Nameable : Kind → Plan → Type 0
+Nameable kind p = (r : List ℕ) × Bytes r × First kind r p × (planOf (kindNumber kind) r ≡ p)
+
+-- nothing passed and all zeros; or a first record passed that names the plan, and no more records in all than it and those that it promises
+abbrev pub Lawful : Kind → State → Type 0
+Lawful kind st =
+    ((st .passed ≡ 0) × Zeros (st .plan)) ⊎ ((1 ≤ st .passed) × (st .passed ≤ 1 + length (promised kind (st .plan))) × Nameable kind (st .plan))
+
+-- a state of one of the four kinds that the rule allows
+abbrev pub AllowedState : State → Type 0
+AllowedState st = (kind : Kind) × (st .kind ≡ kindNumber kind) × Lawful kind st
