@@ -1,25 +1,24 @@
 -- `allowed-is`: the state rule's tests of a plan hold exactly where the plan is allowed, test by test; a leader's rows by one law over the row.
 use Prim.Native.Nat.{ℕ, zero, suc, _+_, _*_, _≤_, _<_}
-use mathlib.Core.Path.{_≡_, refl, sym, ap, _∙_, subst}
+use mathlib.Core.Path.{_≡_, refl, sym, _∙_, subst}
 use mathlib.Core.List.{List, [], _∷_}
-use mathlib.Core.Bool.{Bool, true, false}
+use mathlib.Core.Bool.{Bool, true}
 use mathlib.Core.Logic.{_↔_}
 use native.Mathlib.Omega.{arith}
 use native.Mathlib.Nat.{zero-add}
 use lib.Dec.{eqb, leb}
 use lib.ListN.{getD, replicate, getD-replicate}
 use lib.Seq.{getD-append-add}
-use borrow.Author.Tests.{eq-eqb, eqb-true, eqb-false, le-leb, leb-true, ne-eqb}
+use borrow.Author.Tests.{eq-eqb, eqb-true, le-leb, leb-true, ne-eqb}
 use Rattle.words.specs.Tests.{pick, bothOf, withinOf}
 use Rattle.words.proofs.Laws.{both-l, both-r, both-make, within-true, true-within}
 use Rattle.plan.specs.Tables.{rows, slot, slotOf, facility}
-use Rattle.plan.specs.Plan.{allZero, slotsZero?, imageZero?, zeroPlan?, slotGood, slotsGood, volumeGood, leaderGood, imageGood, imageRanges, imageAgrees, planGood}
+use Rattle.plan.specs.Plan.{allZero, slotsZero?, imageZero?, zeroPlan?, slotGood, slotsGood, volumeGood, leaderGood, imageGood, planGood}
 use Rattle.plan.specs.declared.Plan.{Plan}
 use Rattle.plan.specs.declared.Slot.{Slot}
 use Rattle.plan.proofs.Bounds.{zero-each, slot-each}
 use Rattle.bodies.proofs.Named.{slot-good, slots-good}
 use Rattle.promises.specs.Rules.{Kind, volume, leader, image, trailer, kindNumber}
-use Rattle.promises.proofs.Each.{each-at, next}
 use Rattle.first_records.specs.Allowed.{Within, Row, RowOf, NoRows, NoLines, AllowedVolume, AllowedLeader, AllowedImage, Zeros, Allowed}
 
 -- both tests, and both facts
@@ -94,7 +93,8 @@ by-row P a b c d e f g (suc (suc zero)) h = c
 by-row P a b c d e f g (suc (suc (suc zero))) h = d
 by-row P a b c d e f g (suc (suc (suc (suc zero)))) h = e
 by-row P a b c d e f g (suc (suc (suc (suc (suc zero))))) h = f
-by-row P a b c d e f g (suc (suc (suc (suc (suc (suc i)))))) h = subst P (let q : 6 + i ≡ suc (suc (suc (suc (suc (suc i))))) = omega arith in q) (g i (omega arith))
+by-row P a b c d e f g (suc (suc (suc (suc (suc (suc i)))))) h =
+    subst P (let q : 6 + i ≡ suc (suc (suc (suc (suc (suc i))))) = omega arith in q) (g i (omega arith))
 
 module _ (p : Plan) where
   abbrev Good : ℕ → Type 0

@@ -1,7 +1,7 @@
 -- `allowed-named`: the state rule allows a plan exactly where some first record names it. One way the record is written from the plan, and the plan that is
 -- read back has the same numbers; the other way a record that passes names a good plan.
-use Prim.Native.Nat.{ℕ, _<_}
-use mathlib.Core.Path.{_≡_, refl, sym, _∙_, subst}
+use Prim.Native.Nat.{ℕ}
+use mathlib.Core.Path.{_≡_, sym, _∙_, subst}
 use mathlib.Core.List.{List}
 use mathlib.Core.Bool.{true}
 use mathlib.Core.Logic.{_↔_}

@@ -18,7 +18,8 @@ use Rattle.decimal.specs.declared.Written.the-variants.{Number}
 use Rattle.decimal.proofs.Complete.{after-append}
 use Rattle.fields.specs.Field.{fieldBytes}
 use Rattle.promises.specs.Bytes.{Bytes}
-use Rattle.promises.specs.Newest.{Says, Numbered}
+use Rattle.promises.specs.Newest.{Numbered}
+use Rattle.first_records.specs.Allowed.{Within}
 use Rattle.first_records.specs.FirstRecord.{columns}
 
 numeral-join : (xs ys : List ℕ) → Numeral xs → Numeral ys → Numeral (xs ++ ys)
@@ -62,13 +63,13 @@ columns-good w n h l =
 
 -- a field of those bytes says the number, and lies in a range that its columns hold
 module _ (r : List ℕ) (byte : ℕ) (k : Form) (plain : shapeOf k ≡ Whole) (wide : 1 ≤ widthOf k) (lo hi n : ℕ) (short : hi < 10 ^ widthOf k) where
-  pub numbered : fieldBytes r (placeOf byte) k ≡ columns (widthOf k) n → lo ≤ n → n ≤ hi → Numbered r byte k lo hi n
-  numbered e l h =
+  pub numbered : fieldBytes r (placeOf byte) k ≡ columns (widthOf k) n → Within lo hi n → Numbered r byte k lo hi n
+  numbered e h =
       record {
         says = subst (λ (bs : List ℕ). grammar.WellWritten k bs (Number (pos n) (pos 0))) (sym e) (
           spelt (widthOf k) n .size,
           subst (λ (s : Shape). Good s (columns (widthOf k) n) (Number (pos n) (pos 0))) (sym plain) (columns-good (widthOf k) n wide (omega arith)),
         );
-        least = l;
-        most = h;
+        least = h .low;
+        most = h .high;
       }

@@ -10,8 +10,9 @@ use Rattle.promises.specs.Newest.{ImageDescriptor}
 use Rattle.promises.specs.Rules.{image}
 use Rattle.promises.specs.Bytes.{Bytes}
 use Rattle.promises.specs.Witness.{four, made, blanks, firstOf}
+use Rattle.promises.proofs.Each.{next}
 use Rattle.promises.proofs.WitnessFirst.{blank}
-use Rattle.first_records.specs.Allowed.{AllowedImage}
+use Rattle.first_records.specs.Allowed.{Within, AllowedImage}
 use Rattle.first_records.specs.FirstRecord.{columns, imageWritten, recordOf}
 use Rattle.first_records.proofs.Columns.{numbered, columns-bytes}
 use Rattle.first_records.proofs.Headed.{first-headed, first-bytes}
@@ -21,49 +22,28 @@ module _ (p : Plan) where
   unfolding recordOf imageWritten columns blanks firstOf made four firstLength firstCodes otherCodes placeOf
   image-named a =
       let r = recordOf image p in
+      let lines : Within 1 99999999 (p .n) = record { low = a .n .low; high = let h = a .n .high in omega arith } in
       record {
         is = first-headed 3 (imageWritten p) refl;
         ab = refl;
         sort = refl;
-        n = numbered r 181 I6 refl (omega arith) 1 999999 (p .n) (omega arith) refl (a .n .low) (a .n .high);
-        L = numbered r 187 I6 refl (omega arith) 1 999999 (p .l) (omega arith) refl (a .L .low) (a .L .high);
-        group = numbered r 225 I4 refl (omega arith) 2 2 2 (omega arith) refl (omega arith) (omega arith);
-        channels = numbered r 233 I4 refl (omega arith) 1 1 1 (omega arith) refl (omega arith) (omega arith);
-        lines = numbered r 237 I8 refl (omega arith) 1 99999999 (p .n) (omega arith) refl (a .n .low) (let h = a .n .high in omega arith);
-        w = numbered r 249 I8 refl (omega arith) 1 99999999 (p .w) (omega arith) refl (a .w .low) (a .w .high);
-        d = numbered r 281 I8 refl (omega arith) 1 99999999 (p .d) (omega arith) refl (a .d .low) (a .d .high);
-        s = numbered r 289 I4 refl (omega arith) 0 9999 (p .s) (omega arith) refl (a .s .low) (a .s .high);
+        n = numbered r 181 I6 refl (omega arith) 1 999999 (p .n) (omega arith) refl (a .n);
+        L = numbered r 187 I6 refl (omega arith) 1 999999 (p .l) (omega arith) refl (a .L);
+        group = numbered r 225 I4 refl (omega arith) 2 2 2 (omega arith) refl (record { low = omega arith; high = omega arith });
+        channels = numbered r 233 I4 refl (omega arith) 1 1 1 (omega arith) refl (record { low = omega arith; high = omega arith });
+        lines = numbered r 237 I8 refl (omega arith) 1 99999999 (p .n) (omega arith) refl lines;
+        w = numbered r 249 I8 refl (omega arith) 1 99999999 (p .w) (omega arith) refl (a .w);
+        d = numbered r 281 I8 refl (omega arith) 1 99999999 (p .d) (omega arith) refl (a .d);
+        s = numbered r 289 I4 refl (omega arith) 0 9999 (p .s) (omega arith) refl (a .s);
         paired = a .paired;
         room = a .room;
       }
 
   pub image-bytes : Bytes (recordOf image p)
   unfolding recordOf imageWritten
-  image-bytes = first-bytes image (imageWritten p) (
-    omega arith,
-    (
-      blank 166,
-      (
-        columns-bytes 6 (p .n),
-        (
-          columns-bytes 6 (p .l),
-          (
-            blank 32,
-            (
-              columns-bytes 4 2,
-              (
-                blank 4,
-                (
-                  columns-bytes 4 1,
-                  (
-                    columns-bytes 8 (p .n),
-                    (blank 4, (columns-bytes 8 (p .w), (blank 24, (columns-bytes 8 (p .d), (columns-bytes 4 (p .s), (blank 136, (omega arith, (blank 288, tt)))))))),
-                  ),
-                ),
-              ),
-            ),
-          ),
-        ),
-      ),
-    ),
-  )
+  image-bytes =
+      first-bytes image (imageWritten p)
+      (next (omega arith) (next (blank 166) (next (columns-bytes 6 (p .n)) (next (columns-bytes 6 (p .l)) (next (blank 32)
+      (next (columns-bytes 4 2) (next (blank 4) (next (columns-bytes 4 1) (next (columns-bytes 8 (p .n)) (next (blank 4)
+      (next (columns-bytes 8 (p .w)) (next (blank 24) (next (columns-bytes 8 (p .d)) (next (columns-bytes 4 (p .s))
+      (next (blank 136) (next (omega arith) (next (blank 288) tt)))))))))))))))))

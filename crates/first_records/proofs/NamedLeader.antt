@@ -1,10 +1,10 @@
 -- A leader's record that is written from a plan which is allowed is a first record that names it: header and text, and the pairs of two blocks, each pair
 -- by one law over its place in the block.
-use Prim.Native.Nat.{ℕ, suc, _+_, _-_, _*_, _≤_, _<_}
+use Prim.Native.Nat.{ℕ, _+_, _-_, _*_, _≤_, _<_}
 use mathlib.Core.Path.{_≡_, refl, sym, ap, _∙_, subst, subst₂}
 use mathlib.Core.List.{List, [], _∷_, _++_}
 use native.Mathlib.Omega.{arith}
-use lib.ListN.{length, getD, drop, replicate, length-append, length-drop, getD-replicate}
+use lib.ListN.{length, getD, replicate, length-append, length-drop, getD-replicate}
 use lib.Seq.{getD-drop, getD-append-add}
 use Rattle.words.specs.Words.{placeOf}
 use Rattle.decimal.specs.Text.{bytes}
@@ -16,9 +16,10 @@ use Rattle.promises.specs.Newest.{Pair, NoSlot, Facility, LeaderDescriptor}
 use Rattle.promises.specs.Rules.{leader, concat}
 use Rattle.promises.specs.Bytes.{Bytes}
 use Rattle.promises.specs.Witness.{four, made, blanks, firstOf}
+use Rattle.promises.proofs.Each.{next}
 use Rattle.promises.proofs.WitnessFirst.{blank}
 use Rattle.first_records.specs.Allowed.{Row, AllowedLeader}
-use Rattle.first_records.specs.FirstRecord.{columns, pairsWritten, fifteen, eleven, leaderWritten, recordOf}
+use Rattle.first_records.specs.FirstRecord.{pairsWritten, fifteen, eleven, leaderWritten, recordOf}
 use Rattle.first_records.proofs.Headed.{first-headed, first-bytes}
 use Rattle.first_records.proofs.Stands.{Stands, here, behind}
 use Rattle.first_records.proofs.Pairs.{pairs-long, pairs-bytes, pair-written}
@@ -76,13 +77,13 @@ module _ (p : Plan) (counts : length (p .counts) ≡ rows) (lengths : length (p 
 
   slots-stand : Stands slots 180 (recordOf leader p)
   unfolding recordOf leaderWritten firstOf made four blanks
-  slots-stand = behind front 180 refl (here slots (blanks 60 ++ (facilities ++ (blanks 146 ++ []))))
+  slots-stand = behind front 180 refl (here slots (blanks 60 ++ (facilities ++ (blanks 146 ++ []))) 0 refl)
 
   facilities-stand : Stands facilities 420 (recordOf leader p)
   unfolding recordOf leaderWritten firstOf made four blanks
   facilities-stand =
       behind front 420 refl
-      (behind slots 240 (omega (arith, slots-long)) (behind (blanks 60) 60 refl (here facilities (blanks 146 ++ []))))
+      (behind slots 240 (omega (arith, slots-long)) (behind (blanks 60) 60 refl (here facilities (blanks 146 ++ []) 0 refl)))
 
   -- pair j of the fifteen
   slot : (least most shortest longest : ℕ) → most < 1000000 → longest < 1000000 → (j : ℕ) → j < 15
@@ -129,13 +130,7 @@ module _ (p : Plan) (counts : length (p .counts) ≡ rows) (lengths : length (p 
 
 pub leader-bytes : (p : Plan) → Bytes (recordOf leader p)
 unfolding recordOf leaderWritten
-leader-bytes p = first-bytes leader (leaderWritten p) (
-  omega arith,
-  (
-    blank 166,
-    (
-      pairs-bytes 6 (fifteen (p .counts)) (fifteen (p .lengths)),
-      (blank 60, (pairs-bytes 8 (eleven (p .counts)) (eleven (p .lengths)), (blank 146, tt))),
-    ),
-  ),
-)
+leader-bytes p =
+    first-bytes leader (leaderWritten p)
+    (next (omega arith) (next (blank 166) (next (pairs-bytes 6 (fifteen (p .counts)) (fifteen (p .lengths))) (next (blank 60)
+    (next (pairs-bytes 8 (eleven (p .counts)) (eleven (p .lengths))) (next (blank 146) tt))))))

@@ -1,8 +1,6 @@
 -- A volume directory's record that is written from a plan which is allowed is a first record that names it: header, text and pointer count, each read at
 -- its place.
-use Prim.Native.Nat.{ℕ}
-use mathlib.Core.Path.{_≡_, refl}
-use mathlib.Core.List.{List}
+use mathlib.Core.Path.{refl}
 use native.Mathlib.Omega.{arith}
 use Rattle.words.specs.Words.{placeOf}
 use Rattle.decimal.specs.declared.Form.the-variants.{I4}
@@ -10,7 +8,7 @@ use Rattle.plan.specs.Tables.{otherCodes}
 use Rattle.plan.specs.Plan.{firstLength, firstCodes}
 use Rattle.plan.specs.declared.Plan.{Plan}
 use Rattle.promises.specs.Newest.{VolumeDescriptor}
-use Rattle.promises.specs.Rules.{Kind, volume}
+use Rattle.promises.specs.Rules.{volume}
 use Rattle.promises.specs.Bytes.{Bytes}
 use Rattle.promises.specs.Witness.{four, made, blanks, firstOf}
 use Rattle.promises.proofs.WitnessFirst.{blank}
@@ -26,7 +24,7 @@ module _ (p : Plan) where
       record {
         is = first-headed 1 (volumeWritten p) refl;
         ab = refl;
-        pointers = numbered (recordOf volume p) 161 I4 refl (omega arith) 3 6 (p .pointers) (omega arith) refl (a .pointers .low) (a .pointers .high);
+        pointers = numbered (recordOf volume p) 161 I4 refl (omega arith) 3 6 (p .pointers) (omega arith) refl (a .pointers);
       }
 
   pub volume-bytes : Bytes (recordOf volume p)

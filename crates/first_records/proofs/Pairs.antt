@@ -1,7 +1,7 @@
 -- Pairs that are written one behind the other: how long they are, where the columns of pair i stand, by induction over the pairs, and that a pair of its
 -- row's ranges is written as the rules ask.
 use Prim.Native.Nat.{ℕ, zero, suc, _+_, _*_, _^_, _≤_, _<_}
-use mathlib.Core.Path.{_≡_, refl, sym, ap, _∙_, subst}
+use mathlib.Core.Path.{_≡_, refl, sym, _∙_, subst}
 use mathlib.Core.List.{List, [], _∷_, _++_}
 use native.Mathlib.Omega.{arith}
 use native.Mathlib.Nat.{mul-suc, mul-zero}
@@ -57,8 +57,8 @@ pair-placed w (c ∷ cs) [] i e h = absurd (omega arith)
 pair-placed w (c ∷ cs) (l ∷ ls) zero e h =
     let rest = concat (pairsWritten w cs ls) in
     record {
-      count = subst (λ (m : ℕ). Stands (columns 6 c) m (columns 6 c ++ (columns w l ++ rest))) (sym (mul-zero (6 + w))) (here (columns 6 c) (columns w l ++ rest));
-      long = behind (columns 6 c) _ (omega (arith, mul-zero (6 + w), spelt 6 c .size)) (here (columns w l) rest);
+      count = here (columns 6 c) (columns w l ++ rest) ((6 + w) * 0) (mul-zero (6 + w));
+      long = behind (columns 6 c) _ (omega (arith, mul-zero (6 + w), spelt 6 c .size)) (here (columns w l) rest 0 refl);
     }
 pair-placed w (c ∷ cs) (l ∷ ls) (suc i) e h =
     let r = pair-placed w cs ls i (omega arith) (omega arith) in
@@ -82,11 +82,10 @@ module _ (r : List ℕ) (byte : ℕ) (k : Form) (plain : shapeOf k ≡ Whole) (w
       → Row least most shortest longest c l → Pair r byte k least most shortest longest c l
   pair-ruled zero l e f a =
       subst (λ (x : ℕ). Pair r byte k least most shortest longest 0 x) (sym (a .none refl))
-      (none (numbered r byte I6 refl (omega arith) least most 0 few e (a .counted .low) (a .counted .high)))
+      (none (numbered r byte I6 refl (omega arith) least most 0 few e (a .counted)))
   pair-ruled (suc c) l e f a =
-      let b = a .some (omega arith) in
-      some (numbered r byte I6 refl (omega arith) least most (suc c) few e (a .counted .low) (a .counted .high))
-      (numbered r (byte + 6) k plain wide shortest longest l short f (b .low) (b .high))
+      some (numbered r byte I6 refl (omega arith) least most (suc c) few e (a .counted))
+      (numbered r (byte + 6) k plain wide shortest longest l short f (a .some (omega arith)))
 
 -- pair i of those that stand from that byte on
 module _ (r : List ℕ) (from : ℕ) (k : Form) (plain : shapeOf k ≡ Whole) (wide : 1 ≤ widthOf k) (one : 1 ≤ from) (cs ls : List ℕ)

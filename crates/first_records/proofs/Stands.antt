@@ -2,7 +2,7 @@
 -- they are what is read there.
 use Prim.Native.Nat.{ℕ, _+_}
 use mathlib.Core.Path.{_≡_, refl, sym, ap, _∙_}
-use mathlib.Core.List.{List, [], _∷_, _++_, append-assoc}
+use mathlib.Core.List.{List, [], _++_, append-assoc}
 use native.Mathlib.Omega.{arith}
 use lib.ListN.{length, take, drop, length-append}
 use lib.Seq.{take-at, drop-at}
@@ -14,8 +14,8 @@ pub record Stands (x : List ℕ) (m : ℕ) (r : List ℕ) : Type 0 where
   pub is : r ≡ before ++ (x ++ behind)
   pub place : length before ≡ m
 
-pub here : (x b : List ℕ) → Stands x 0 (x ++ b)
-here x b = record { before = []; behind = b; is = refl; place = refl }
+pub here : (x b : List ℕ) (n : ℕ) → n ≡ 0 → Stands x n (x ++ b)
+here x b n e = record { before = []; behind = b; is = refl; place = sym e }
 
 module _ {x : List ℕ} {m : ℕ} where
   pub behind : (a : List ℕ) {b : List ℕ} (n : ℕ) → n ≡ length a + m → Stands x m b → Stands x n (a ++ b)

@@ -1,17 +1,16 @@
 -- `state-rule`: the state rule's test holds exactly of the states that have passed nothing, and of those behind a first record that names their plan; by the
 -- cases of the test.
-use Prim.Native.Nat.{ℕ, zero, suc, _+_, _≤_}
-use mathlib.Core.Path.{_≡_, refl, sym, ap, _∙_, subst}
+use Prim.Native.Nat.{ℕ, zero, suc, _≤_}
+use mathlib.Core.Path.{_≡_, refl, sym, _∙_, subst}
 use mathlib.Core.Bool.{true}
-use mathlib.Core.Logic.{_↔_, _⊎_, inl, inr}
+use mathlib.Core.Logic.{_↔_, inl, inr}
 use native.Mathlib.Omega.{arith}
-use lib.Dec.{eqb, leb}
 use lib.ListN.{length}
 use borrow.Author.Tests.{le-leb}
 use Rattle.words.specs.Tests.{withinOf}
 use Rattle.words.proofs.Laws.{both-r, both-make, within-true, true-within}
 use Rattle.plan.specs.Tables.{rows}
-use Rattle.plan.specs.Plan.{zeroPlan?, planGood, totalOf}
+use Rattle.plan.specs.Plan.{zeroPlan?, totalOf}
 use Rattle.plan.specs.declared.Plan.{Plan}
 use Rattle.walk.specs.State.{goodState}
 use Rattle.walk.specs.declared.State.{State}
