@@ -7,12 +7,12 @@ use mathlib.Core.Logic.{_↔_}
 use native.Mathlib.Omega.{arith}
 use native.Mathlib.Nat.{zero-add}
 use lib.Dec.{eqb, leb}
-use lib.ListN.{getD, replicate, getD-replicate}
-use lib.Seq.{getD-append-add}
+use lib.ListN.{getD, getD-replicate}
+use lib.Seq.{getD-drop}
 use borrow.Author.Tests.{eq-eqb, eqb-true, le-leb, leb-true, ne-eqb}
 use Rattle.words.specs.Tests.{pick, bothOf, withinOf}
 use Rattle.words.proofs.Laws.{both-l, both-r, both-make, within-true, true-within}
-use Rattle.plan.specs.Tables.{rows, slot, slotOf, facility}
+use Rattle.plan.specs.Tables.{rows, slot, slots, slotOf, facility}
 use Rattle.plan.specs.Plan.{allZero, slotsZero?, imageZero?, zeroPlan?, slotGood, slotsGood, volumeGood, leaderGood, imageGood, planGood}
 use Rattle.plan.specs.declared.Plan.{Plan}
 use Rattle.plan.specs.declared.Slot.{Slot}
@@ -80,10 +80,7 @@ row-is i c l = (to, λ r. slot-good i c l (r .counted .low, r .counted .high) (r
 -- the slot of facility row i
 facility-row : (i : ℕ) → i < 11 → slotOf (6 + i) ≡ facility
 unfolding slotOf
-facility-row i h =
-    getD-append-add (slot 10 1 1 4096 4096 ∷ slot 20 0 1 1620 1620 ∷ slot 30 0 9 12 999999 ∷ slot 40 0 9 12 999999 ∷ slot 50 0 9 12 999999
-    ∷ slot 60 0 9 12 999999 ∷ []) (replicate 11 facility) i (slot 0 0 0 0 0)
-    ∙ getD-replicate 11 i facility (slot 0 0 0 0 0) h
+facility-row i h = sym (getD-drop 6 slots i (slot 0 0 0 0 0)) ∙ getD-replicate 11 i facility (slot 0 0 0 0 0) h
 
 -- a property of every row: of the six slots, and of the facility rows
 by-row : (P : ℕ → Type 0) → P 0 → P 1 → P 2 → P 3 → P 4 → P 5 → ((i : ℕ) → i < 11 → P (6 + i)) → (i : ℕ) → i < rows → P i

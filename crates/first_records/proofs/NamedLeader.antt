@@ -2,10 +2,10 @@
 -- by one law over its place in the block.
 use Prim.Native.Nat.{ℕ, _+_, _-_, _*_, _≤_, _<_}
 use mathlib.Core.Path.{_≡_, refl, sym, ap, _∙_, subst, subst₂}
-use mathlib.Core.List.{List, [], _∷_, _++_}
+use mathlib.Core.List.{List, [], _++_}
 use native.Mathlib.Omega.{arith}
-use lib.ListN.{length, getD, replicate, length-append, length-drop, getD-replicate}
-use lib.Seq.{getD-drop, getD-append-add}
+use lib.ListN.{length, getD, length-append, length-drop, getD-replicate}
+use lib.Seq.{getD-drop}
 use Rattle.words.specs.Words.{placeOf}
 use Rattle.decimal.specs.Text.{bytes}
 use Rattle.decimal.specs.declared.Form.the-variants.{I6, I8}
@@ -27,9 +27,7 @@ use Rattle.first_records.proofs.Pairs.{pairs-long, pairs-bytes, pair-wr
 -- slots 8 to 15 have no numbers
 fifteen-none : (xs : List ℕ) (i : ℕ) → i < 8 → getD (fifteen xs) (7 + i) 0 ≡ 0
 unfolding fifteen
-fifteen-none xs i h =
-    getD-append-add (getD xs 0 0 ∷ getD xs 1 0 ∷ getD xs 2 0 ∷ getD xs 3 0 ∷ getD xs 4 0 ∷ 0 ∷ getD xs 5 0 ∷ []) (replicate 8 0) i 0
-    ∙ getD-replicate 8 i 0 0 h
+fifteen-none xs i h = sym (getD-drop 7 (fifteen xs) i 0) ∙ getD-replicate 8 i 0 0 h
 
 fifteen-long : (xs : List ℕ) → length (fifteen xs) ≡ 15
 unfolding fifteen
