@@ -1,5 +1,5 @@
--- `allowed-named`: the state rule allows a plan exactly where some first record names it. One way the record is written from the plan, and the plan that is
--- read back has the same numbers; the other way a record that passes names a good plan.
+-- `allowed-named`: the state rule allows a plan exactly where some first record names it (`nameable-is`: by the page's inequalities). One way the record is
+-- written from the plan, and the plan that is read back has the same numbers; the other way a record that passes names a good plan.
 use Prim.Native.Nat.{ℕ}
 use mathlib.Core.Path.{_≡_, sym, _∙_, subst}
 use mathlib.Core.List.{List}
@@ -9,7 +9,7 @@ use native.Mathlib.Omega.{arith}
 use lib.ListN.{length, getD, replicate, getD-replicate}
 use lib.Seq.{ext-getD}
 use Rattle.plan.specs.Tables.{rows}
-use Rattle.plan.specs.Plan.{planGood}
+use Rattle.plan.specs.Plan.{planGood, zeroPlan}
 use Rattle.plan.specs.declared.Plan.{Plan}
 use Rattle.bodies.specs.Named.{planOf}
 use Rattle.bodies.proofs.Named.{first-good}
@@ -21,7 +21,7 @@ use Rattle.promises.proofs.Accepts.{kind-low}
 use Rattle.promises.proofs.AnyEdition.{first-size}
 use Rattle.promises.proofs.Completed.{named-counts, named-lengths}
 use Rattle.promises.proofs.FirstIs.{first-names, first-plan}
-use Rattle.first_records.specs.Allowed.{Allowed, NoRows, NoLines}
+use Rattle.first_records.specs.Allowed.{Allowed, NoRows, NoLines, Zeros}
 use Rattle.first_records.specs.FirstRecord.{recordOf}
 use Rattle.first_records.specs.StateRule.{Nameable}
 use Rattle.first_records.proofs.AllowedIs.{allowed-is}
@@ -69,6 +69,11 @@ module _ (p : Plan) (c : length (p .counts) ≡ rows) (l : length (p .lengths) �
         s = es i;
       }
 
+  pub zero-plan : Zeros p → zeroPlan ≡ p
+  zero-plan a =
+      unlined (a .lines) 0 (replicate rows 0) (replicate rows 0) (sym (a .pointers)) (zeros-same (p .counts) c (a .rows .counts))
+      (zeros-same (p .lengths) l (a .rows .lengths))
+
   -- whatever first record names an allowed plan, it is the plan that is read back
   pub plan-read : (r : List ℕ) (kind : Kind) → Allowed kind p → First kind r p → planOf (kindNumber kind) r ≡ p
   unfolding planOf
@@ -83,18 +88,9 @@ module _ (p : Plan) (c : length (p .counts) ≡ rows) (l : length (p .lengths) �
   plan-read r image a f =
       let s = first-plan image p r f in
       unrowed (a .rows) 0 (planOf 3 r .n) (planOf 3 r .l) (planOf 3 r .w) (planOf 3 r .d) (planOf 3 r .s) (sym (a .pointers)) (s .0) (s .1) (s .2) (s .3) (s .4)
-  plan-read r trailer a f =
-      unlined (a .lines) 0 (replicate rows 0) (replicate rows 0) (sym (a .pointers)) (zeros-same (p .counts) c (a .rows .counts))
-      (zeros-same (p .lengths) l (a .rows .lengths))
+  plan-read r trailer a f = zero-plan a
 
 -- ---- both ways
-
-module _ (kind : Kind) (p : Plan) where
-  -- a plan that a first record names is good
-  pub named-good : Nameable kind p → planGood (kindNumber kind) p ≡ true
-  named-good (r, b, f, e) =
-      subst (λ (q : Plan). planGood (kindNumber kind) q ≡ true) e
-      (first-good (kindNumber kind) p r (kind-low kind .0) (kind-low kind .1) (first-names kind p p r (first-size newest kind p r f) .1 f .0 .body))
 
 record-bytes : (kind : Kind) (p : Plan) → Bytes (recordOf kind p)
 record-bytes volume p = volume-bytes p
@@ -108,13 +104,24 @@ record-names leader p c l a = leader-named p c l a
 record-names image p c l a = image-named p a
 record-names trailer p c l a = trailer-named p
 
--- the record that is written from a plan which is allowed
-pub allowed-nameable : (kind : Kind) (p : Plan) → length (p .counts) ≡ rows → length (p .lengths) ≡ rows → Allowed kind p → Nameable kind p
-allowed-nameable kind p c l a =
-    let r = recordOf kind p in
-    let f = record-names kind p c l a in
-    (r, record-bytes kind p, f, plan-read p c l r kind a f)
+module _ (kind : Kind) (p : Plan) where
+  -- a plan that a first record names is good
+  named-good : Nameable kind p → planGood (kindNumber kind) p ≡ true
+  named-good (r, b, f, e) =
+      subst (λ (q : Plan). planGood (kindNumber kind) q ≡ true) e
+      (first-good (kindNumber kind) p r (kind-low kind .0) (kind-low kind .1) (first-names kind p p r (first-size newest kind p r f) .1 f .0 .body))
 
-pub allowed-named : (kind : Kind) (p : Plan) → length (p .counts) ≡ rows → length (p .lengths) ≡ rows
-    → (planGood (kindNumber kind) p ≡ true) ↔ ((r : List ℕ) × Bytes r × First kind r p × (planOf (kindNumber kind) r ≡ p))
-allowed-named kind p c l = (λ g. allowed-nameable kind p c l (allowed-is kind p .0 g), named-good kind p)
+  module _ (c : length (p .counts) ≡ rows) (l : length (p .lengths) ≡ rows) where
+    -- the record that is written from a plan which is allowed
+    written-names : Allowed kind p → Nameable kind p
+    written-names a =
+        let r = recordOf kind p in
+        let f = record-names kind p c l a in
+        (r, record-bytes kind p, f, plan-read p c l r kind a f)
+
+    -- in the words of document 01
+    pub nameable-is : Allowed kind p ↔ Nameable kind p
+    nameable-is = (written-names, λ n. allowed-is kind p .0 (named-good n))
+
+    pub allowed-named : (planGood (kindNumber kind) p ≡ true) ↔ ((r : List ℕ) × Bytes r × First kind r p × (planOf (kindNumber kind) r ≡ p))
+    allowed-named = (λ g. written-names (allowed-is kind p .0 g), named-good)

@@ -6,17 +6,17 @@ use mathlib.Core.Bool.{true}
 use mathlib.Core.Logic.{_↔_, inl, inr}
 use native.Mathlib.Omega.{arith}
 use lib.ListN.{length}
-use borrow.Author.Tests.{le-leb}
 use Rattle.words.specs.Tests.{withinOf}
 use Rattle.words.proofs.Laws.{both-r, both-make, within-true, true-within}
 use Rattle.plan.specs.Tables.{rows}
-use Rattle.plan.specs.Plan.{zeroPlan?, totalOf}
+use Rattle.plan.specs.Plan.{zeroPlan?}
 use Rattle.plan.specs.declared.Plan.{Plan}
 use Rattle.walk.specs.State.{goodState}
 use Rattle.walk.specs.declared.State.{State}
-use Rattle.walk.proofs.GoodLaws.{good-zero, good-some, good-known, good-later}
+use Rattle.walk.proofs.GoodLaws.{good-zero, good-known, good-later}
 use Rattle.promises.specs.Rules.{Kind, volume, leader, image, trailer, kindNumber}
 use Rattle.promises.proofs.Accepts.{kind-low}
+use Rattle.promises.proofs.Completed.{at, at-good}
 use Rattle.promises.proofs.LaterIs.{promised-length}
 use Rattle.first_records.specs.StateRule.{Lawful, AllowedState}
 use Rattle.first_records.proofs.AllowedIs.{zeros-are}
@@ -33,29 +33,25 @@ kind-of (suc (suc (suc (suc (suc k))))) a b = absurd (omega arith)
 
 -- a state of a kind
 module _ (kind : Kind) (p : Plan) (c : length (p .counts) ≡ rows) (l : length (p .lengths) ≡ rows) where
-  abbrev at : ℕ → State
-  at k = record { kind = kindNumber kind; passed = k; plan = p }
-
   known : withinOf 1 (kindNumber kind) 4 ≡ true
   known = true-within 1 (kindNumber kind) 4 (kind-low kind .0) (kind-low kind .1)
 
-  lawful-to : (k : ℕ) → goodState (at k) ≡ true → Lawful kind (at k)
-  lawful-to zero g = inl (refl, zeros-are p .0 (both-r (withinOf 1 (kindNumber kind) 4) (zeroPlan? p) (sym (good-zero (at 0) refl) ∙ g)))
+  lawful-to : (k : ℕ) → goodState (at (kindNumber kind) p k) ≡ true → Lawful kind (at (kindNumber kind) p k)
+  lawful-to zero g = inl (refl, zeros-are p .0 (both-r (withinOf 1 (kindNumber kind) 4) (zeroPlan? p) (sym (good-zero (at (kindNumber kind) p 0) refl) ∙ g)))
   lawful-to (suc k) g =
-      let h = good-later (at (suc k)) g (λ z. omega arith) in
+      let h = good-later (at (kindNumber kind) p (suc k)) g (λ z. omega arith) in
       inr (omega arith, omega (arith, h .1, promised-length kind p c l), allowed-named kind p c l .0 (h .0))
 
-  lawful-from : (k : ℕ) → Lawful kind (at k) → goodState (at k) ≡ true
-  lawful-from k (inl (e, z)) = good-zero (at k) e ∙ both-make _ _ known (zeros-are p .1 z)
+  lawful-from : (k : ℕ) → Lawful kind (at (kindNumber kind) p k) → goodState (at (kindNumber kind) p k) ≡ true
+  lawful-from k (inl (e, z)) = good-zero (at (kindNumber kind) p k) e ∙ both-make _ _ known (zeros-are p .1 z)
   lawful-from k (inr (a, b, n)) =
-      good-some (at k) (λ z. omega arith)
-      ∙ both-make _ _ known (both-make _ _ (allowed-named kind p c l .1 n) (le-leb k (totalOf (kindNumber kind) p) (omega (arith, promised-length kind p c l))))
+      at-good (kindNumber kind) p (kind-low kind .0) (kind-low kind .1) (allowed-named kind p c l .1 n) c l k a (omega (arith, promised-length kind p c l))
 
 pub state-rule : (st : State) → length (st .plan .counts) ≡ rows → length (st .plan .lengths) ≡ rows → (goodState st ≡ true) ↔ AllowedState st
 state-rule st c l = (
   λ g. let b = within-true 1 (st .kind) 4 (good-known st g) in to (kind-of (st .kind) (b .0) (b .1)) g,
   λ (kind, e, a).
-      subst (λ (k : ℕ). goodState (record { kind = k; passed = st .passed; plan = st .plan }) ≡ true) (sym e)
+      subst (λ (k : ℕ). goodState (at k (st .plan) (st .passed)) ≡ true) (sym e)
       (lawful-from kind (st .plan) c l (st .passed) a),
 )
   where
@@ -64,5 +60,5 @@ state-rule st c l = (
       kind,
       e,
       lawful-to kind (st .plan) c l (st .passed)
-          (subst (λ (k : ℕ). goodState (record { kind = k; passed = st .passed; plan = st .plan }) ≡ true) e g),
+          (subst (λ (k : ℕ). goodState (at k (st .plan) (st .passed)) ≡ true) e g),
     )
