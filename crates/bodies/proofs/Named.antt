@@ -29,7 +29,7 @@ use Rattle.leader.proofs.TableLaws.{admitted-bound, admitted-row}
 -- ---- a leader's slots
 
 -- count and length in range, and the length 0 where the count is
-slot-good : (i c l : ℕ) → (slotOf i .least ≤ c) × (c ≤ slotOf i .most) → (c ≡ 0 → l ≡ 0)
+pub slot-good : (i c l : ℕ) → (slotOf i .least ≤ c) × (c ≤ slotOf i .most) → (c ≡ 0 → l ≡ 0)
     → ((c ≡ 0 → ⊥) → (slotOf i .shortest ≤ l) × (l ≤ slotOf i .longest)) → slotGood i c l ≡ true
 slot-good i c l a none some = rw (true-within (slotOf i .least) c (slotOf i .most) (a .0) (a .1)) (go (eqb c 0) refl)
   where
@@ -37,7 +37,7 @@ slot-good i c l a none some = rw (true-within (slotOf i .least) c (slotOf i .mos
     go true e = eq-eqb l 0 (none (eqb-true c 0 e))
     go false e = let b = some (eqb-false c 0 e) in true-within (slotOf i .shortest) l (slotOf i .longest) (b .0) (b .1)
 
-slots-good : (i m : ℕ) (cs ls : List ℕ) → ((k : ℕ) → i ≤ k → k < i + m → slotGood k (getD cs k 0) (getD ls k 0) ≡ true) → slotsGood i m cs ls ≡ true
+pub slots-good : (i m : ℕ) (cs ls : List ℕ) → ((k : ℕ) → i ≤ k → k < i + m → slotGood k (getD cs k 0) (getD ls k 0) ≡ true) → slotsGood i m cs ls ≡ true
 unfolding slotsGood
 slots-good i zero cs ls h = refl
 slots-good i (suc m) cs ls h =

@@ -158,7 +158,7 @@ plan-lengths leader r = refl
 plan-lengths image r = refl
 plan-lengths trailer r = refl
 
-kind-low : (kind : Kind) → (1 ≤ kindNumber kind) × (kindNumber kind ≤ 4)
+pub kind-low : (kind : Kind) → (1 ≤ kindNumber kind) × (kindNumber kind ≤ 4)
 kind-low kind = within-true 1 (kindNumber kind) 4 (kind-known kind)
 
 pub good-fresh : (kind : Kind) → goodState (fresh (kindNumber kind)) ≡ true

@@ -61,7 +61,7 @@ module _ (st : State) (g : goodState st ≡ true) (r : List ℕ) (b : Bytes r) (
             ∙ d .complete n);
       }
 
-  passes : st .passed < totalOf (st .kind) (st .plan) → 12 ≤ length r
+  pub passes : st .passed < totalOf (st .kind) (st .plan) → 12 ≤ length r
       → headerOf (st .passed + 1) (nextDue st .codes) (nextDue st .length) r ≡ Fine
       → bodyOf (st .kind) (nextDue st .run) (st .plan) (st .passed) r ≡ Fine → turnOf st r false ≡ Pass
   passes going twelve h f =
@@ -72,11 +72,11 @@ module _ (st : State) (g : goodState st ≡ true) (r : List ℕ) (b : Bytes r) (
 
 -- ---- behind the first record
 
-abbrev at : ℕ → Plan → ℕ → State
+abbrev pub at : ℕ → Plan → ℕ → State
 at kind p k = record { kind = kind; passed = k; plan = p }
 
 module _ (kind : ℕ) (p : Plan) (a : 1 ≤ kind) (b : kind ≤ 4) (g : planGood kind p ≡ true) (c : length (p .counts) ≡ rows) (l : length (p .lengths) ≡ rows) where
-  at-good : (k : ℕ) → 1 ≤ k → k ≤ totalOf kind p → goodState (at kind p k) ≡ true
+  pub at-good : (k : ℕ) → 1 ≤ k → k ≤ totalOf kind p → goodState (at kind p k) ≡ true
   at-good k h m = good-some (at kind p k) (λ z. omega arith) ∙ both-make _ _ (true-within 1 kind 4 a b) (both-make _ _ g (le-leb _ _ m))
 
   at-end : (k : ℕ) → 1 ≤ k → k ≡ totalOf kind p → Done 1 (at kind p k)

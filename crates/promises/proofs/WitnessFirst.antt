@@ -24,7 +24,7 @@ use Rattle.promises.specs.Rules.{concat}
 use Rattle.promises.specs.Witness.{four, made, blanks, volumeParts, leaderParts, imageParts, trailerParts, firstOf}
 use Rattle.promises.proofs.Made.{made-header, made-length, made-bytes, bytes-concat, bytes-same, Each, Small}
 
-blank : (n : ℕ) → Bytes (blanks n)
+pub blank : (n : ℕ) → Bytes (blanks n)
 unfolding blanks
 blank n = bytes-same n 32 (omega arith)
 
@@ -41,7 +41,7 @@ unfolding imageParts
 image-each =
     (omega arith, (blank 166, (omega arith, (blank 32, (omega arith, (omega arith, (blank 24, (omega arith, (blank 136, (omega arith, (blank 288, tt)))))))))))
 
-trailer-each : Each trailerParts
+pub trailer-each : Each trailerParts
 unfolding trailerParts
 trailer-each = (omega arith, (blank 706, tt))
 
