@@ -1,10 +1,10 @@
--- To begin, to copy a row, to check a set and to read a field are refused exactly where `Questions` says so: each by the cases of its own definition,
+-- To begin, to walk with a state, to copy a row, to check a set and to read a field are refused exactly where `Questions` says so: each by the cases of its own definition,
 -- over what is shown of the walk and of the line view.
 use Prim.Native.Nat.{ℕ, zero, suc, _+_, _*_, _≤_, _<_}
 use mathlib.Core.Path.{_≡_, refl, sym, ap, _∙_, subst}
-use mathlib.Core.Logic.{_↔_}
+use mathlib.Core.Logic.{_↔_, _⊎_, inl, inr}
 use mathlib.Core.List.{List, [], _∷_}
-use mathlib.Core.Bool.{Bool, true, false}
+use mathlib.Core.Bool.{Bool, true, false, false≢true}
 use native.Mathlib.Omega.{arith}
 use lib.Dec.{eqb, ltb}
 use lib.ListN.{length, getD}
@@ -13,7 +13,7 @@ use Rattle.words.specs.Tests.{pick, withinOf}
 use Rattle.words.specs.Words.{placeOf}
 use Rattle.words.specs.Answer.{bareRefusal, refusalAt, refusedAs}
 use Rattle.words.specs.declared.Refusal.{Refusal}
-use Rattle.words.proofs.Laws.{within-true, within-false, true-within}
+use Rattle.words.proofs.Laws.{within-true, within-false, true-within, cases}
 use Rattle.decimal.specs.Forms.{widthOf}
 use Rattle.decimal.specs.declared.Form.the-variants.{I8}
 use Rattle.decimal.specs.declared.Written.{Written}
@@ -24,14 +24,17 @@ use Rattle.fields.specs.Listed.{listedField}
 use Rattle.fields.specs.declared.Field.{Field}
 use Rattle.fields.specs.declared.Field.the-variants as field
 use Rattle.fields.proofs.Laws as laws
+use Rattle.plan.specs.Tables.{rows}
 use Rattle.plan.specs.Plan.{group}
 use Rattle.plan.specs.Plan as plan
 use Rattle.plan.specs.declared.Plan.{Plan}
 use Rattle.turns.specs.declared.Stop.{Stop}
 use Rattle.turns.specs.declared.Stop.the-variants as stop
-use Rattle.walk.specs.State.{fresh}
-use Rattle.walk.specs.Said.{beginningAs}
-use Rattle.walk.specs.Walk.{beginOf}
+use Rattle.walk.specs.State.{fresh, goodState}
+use Rattle.walk.specs.Said.{stopAs, beginningAs}
+use Rattle.walk.specs.Walk.{beginOf, walkOf}
+use Rattle.walk.specs.declared.State.{State}
+use Rattle.walk.specs.declared.Walked.{Walked}
 use Rattle.walk.specs.declared.Begun.{Begun}
 use Rattle.walk.specs.declared.Beginning.{Beginning}
 use Rattle.walk.specs.declared.Beginning.the-variants.{Fresh, Unknown}
@@ -45,8 +48,13 @@ use Rattle.copies.specs.declared.Copied.the-variants as copied
 use Rattle.promises.specs.Newest.{Says, Readable}
 use Rattle.promises.specs.Shown.{lineRecord, dataCount}
 use Rattle.promises.proofs.Parts.{by-means}
+use Rattle.promises.proofs.Turns as turns
+use Rattle.promises.proofs.Counted.{bad-kept}
+use Rattle.promises.proofs.Eleven.{eleven}
 use Rattle.promises.proofs.LineNamed.{line-named, stands-shown}
-use Rattle.refusals.specs.Questions.{BeginRefuses, CopyRefuses, row, FieldRefuses, unlisted, short, badly, byteOf, formOf}
+use Rattle.first_records.specs.StateRule.{AllowedState}
+use Rattle.first_records.proofs.StateRule.{state-rule}
+use Rattle.refusals.specs.Questions.{BeginRefuses, StateRefuses, CopyRefuses, row, FieldRefuses, unlisted, short, badly, byteOf, formOf}
 use Rattle.refusals.specs.Questions as questions
 use Rattle.refusals.proofs.Said as said
 use Rattle.refusals.proofs.Viewed.{view-to, view-from}
@@ -67,6 +75,27 @@ begin-exactly kind x = (λ e. to (withinOf 1 kind 4) refl (said.begun-refused _ 
     from : (b : Bool) → withinOf 1 kind 4 ≡ b → BeginRefuses kind x → beginningAs (begun b .answer) ≡ refusedAs x
     from true q h = absurd (h .unknown (within-true 1 kind 4 q))
     from false q h = ap refusedAs (sym (h .is))
+
+-- ---- 11: with a state
+
+pub state-exactly : (b : ℕ) (st : State) (bs : List ℕ) (c : Bool) → length (st .plan .counts) ≡ rows → length (st .plan .lengths) ≡ rows → (x : Refusal)
+    → ((stopAs (walkOf b st bs c .stop) ≡ refusedAs x) × (x .number ≡ 11)) ↔ StateRefuses st x
+state-exactly b st bs c cl ll x = (
+  λ (e, n).
+      let g = eleven b st bs c .0 (x, said.said-refused _ x e, n) in
+      record { broken = λ a. false≢true (sym g ∙ state-rule st cl ll .1 a); is = sym (told g (said.said-refused _ x e)) },
+  λ h. (ap stopAs (stops (bad (cases (goodState st)) (h .broken))) ∙ ap refusedAs (sym (h .is)), ap (λ (y : Refusal). y .number) (h .is)),
+)
+  where
+    stops : goodState st ≡ false → walkOf b st bs c .stop ≡ stop.Refused (bareRefusal 11)
+    stops g = ap (λ (w : Walked). w .stop) (bad-kept b st bs c g)
+
+    told : goodState st ≡ false → walkOf b st bs c .stop ≡ stop.Refused x → bareRefusal 11 ≡ x
+    told g e = turns.refused-same (sym (stops g) ∙ e)
+
+    bad : (goodState st ≡ true) ⊎ (goodState st ≡ false) → (AllowedState st → ⊥) → goodState st ≡ false
+    bad (inl g) h = absurd (h (state-rule st cl ll .0 g))
+    bad (inr g) h = g
 
 -- ---- 15: a row
 

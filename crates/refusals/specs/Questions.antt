@@ -1,4 +1,4 @@
--- Refusals of what is asked beside the walk (document 01, "Refusal numbers" and "Lines, rows, sets"): to begin (1), a set against its directory
+-- Refusals of what is asked beside the walk (document 01, "Refusal numbers" and "Lines, rows, sets"): to begin (1), with a state (11), a set against its directory
 -- (12), a line of an image held from byte 0 (13), a listed field (14), a row of samples (15); each with what goes before it, in the words of `Rules`,
 -- `Shown` and `Refusals`. No test of the code occurs here. Assumes nothing.
 use Prim.Native.Nat.{ℕ, suc, _+_, _-_, _*_, _≤_, _<_}
@@ -14,15 +14,22 @@ use Rattle.decimal.specs.declared.Form.{Form}
 use Rattle.decimal.specs.declared.Form.the-variants.{I8}
 use Rattle.fields.specs.Listed.{listed}
 use Rattle.plan.specs.declared.Plan.{Plan}
+use Rattle.walk.specs.declared.State.{State}
 use Rattle.promises.specs.Rules.{volume, image}
 use Rattle.promises.specs.Newest.{Numbered, Readable, ImageDescriptor, Accepted}
 use Rattle.promises.specs.Shown.{lineStart, lineRecord, Stands, dataCount}
+use Rattle.first_records.specs.StateRule.{AllowedState}
 use Rattle.refusals.specs.Refusals.{Rule, FirstWrong, header, lineBody, lineAsked, firstAsked, Wrong, Refuses}
 
 -- 1: a walk is begun with a kind that is not 1 to 4
 pub record BeginRefuses (kind : ℕ) (x : Refusal) : Type 0 where
   pub unknown : (1 ≤ kind) × (kind ≤ 4) → ⊥
   pub is : x ≡ bareRefusal 1
+
+-- 11: the state breaks the state rule
+pub record StateRefuses (st : State) (x : Refusal) : Type 0 where
+  pub broken : AllowedState st → ⊥
+  pub is : x ≡ bareRefusal 11
 
 -- the rules of line k's record in the order of a line view: header, then body
 abbrev pub lineRules : Plan → ℕ → List ℕ → List Rule
