@@ -68,7 +68,8 @@ pub record At {D : Type 1} (due : ℕ → ℕ → D) (d : D) (i k : ℕ) (cs ls 
   pub within : j < length cs
   pub is : getD (expand due i cs ls) k d ≡ due (s .run) (s .length)
 
-pub spot-at : {D : Type 1} (due : ℕ → ℕ → D) (d : D) (cs ls : List ℕ) (i k at : ℕ) → length cs ≡ length ls → k < sumOf cs → At due d i k cs ls (spotFrom i cs ls k at)
+pub spot-at : {D : Type 1} (due : ℕ → ℕ → D) (d : D) (cs ls : List ℕ) (i k at : ℕ) → length cs ≡ length ls → k < sumOf cs
+    → At due d i k cs ls (spotFrom i cs ls k at)
 unfolding sumOf spotFrom
 spot-at due d [] ls i k at e h = absurd (omega arith)
 spot-at due d (c ∷ cs) [] i k at e h = absurd (omega arith)

@@ -1,21 +1,20 @@
--- To begin, to walk with a state, to copy a row, to check a set and to read a field are refused exactly where `Questions` says so: each by the cases of its own definition,
--- over what is shown of the walk and of the line view.
-use Prim.Native.Nat.{ℕ, zero, suc, _+_, _*_, _≤_, _<_}
-use mathlib.Core.Path.{_≡_, refl, sym, ap, _∙_, subst}
+-- To begin, to walk with a state, to copy a row and to read a field are refused exactly where `Questions` says so: each by the cases of its own
+-- definition, over what is shown of the walk and of the line view.
+use Prim.Native.Nat.{ℕ, _+_, _≤_}
+use mathlib.Core.Path.{_≡_, refl, sym, ap, _∙_}
 use mathlib.Core.Logic.{_↔_, _⊎_, inl, inr}
-use mathlib.Core.List.{List, [], _∷_}
+use mathlib.Core.List.{List}
 use mathlib.Core.Bool.{Bool, true, false, false≢true}
 use native.Mathlib.Omega.{arith}
-use lib.Dec.{eqb, ltb}
-use lib.ListN.{length, getD}
-use borrow.Author.Tests.{ltb-true, ltb-false, lt-ltb, eqb-true, eqb-false, eq-eqb, ne-eqb}
+use lib.Dec.{ltb}
+use lib.ListN.{length}
+use borrow.Author.Tests.{ltb-true, ltb-false, lt-ltb}
 use Rattle.words.specs.Tests.{pick, withinOf}
 use Rattle.words.specs.Words.{placeOf}
 use Rattle.words.specs.Answer.{bareRefusal, refusalAt, refusedAs}
 use Rattle.words.specs.declared.Refusal.{Refusal}
 use Rattle.words.proofs.Laws.{within-true, within-false, true-within, cases}
 use Rattle.decimal.specs.Forms.{widthOf}
-use Rattle.decimal.specs.declared.Form.the-variants.{I8}
 use Rattle.decimal.specs.declared.Written.{Written}
 use Rattle.decimal.specs.declared.Written.the-variants.{Number, Blank, Bad}
 use Rattle.decimal.proofs.Answer as answer
@@ -26,9 +25,6 @@ use Rattle.fields.specs.declared.Field.the-variants as field
 use Rattle.fields.proofs.Laws as laws
 use Rattle.plan.specs.Tables.{rows}
 use Rattle.plan.specs.Plan.{group}
-use Rattle.plan.specs.Plan as plan
-use Rattle.plan.specs.declared.Plan.{Plan}
-use Rattle.turns.specs.declared.Stop.{Stop}
 use Rattle.turns.specs.declared.Stop.the-variants as stop
 use Rattle.walk.specs.State.{fresh, goodState}
 use Rattle.walk.specs.Said.{stopAs, beginningAs}
@@ -36,16 +32,14 @@ use Rattle.walk.specs.Walk.{beginOf, walkOf}
 use Rattle.walk.specs.declared.State.{State}
 use Rattle.walk.specs.declared.Walked.{Walked}
 use Rattle.walk.specs.declared.Begun.{Begun}
-use Rattle.walk.specs.declared.Beginning.{Beginning}
 use Rattle.walk.specs.declared.Beginning.the-variants.{Fresh, Unknown}
 use Rattle.lines.specs.View.{viewOf}
 use Rattle.lines.specs.declared.View.{View}
 use Rattle.lines.specs.declared.View.the-variants as view
 use Rattle.copies.specs.Row.{copiedBy, copiedOf}
 use Rattle.copies.specs.Said.{copiedAs}
-use Rattle.copies.specs.declared.Copied.{Copied}
 use Rattle.copies.specs.declared.Copied.the-variants as copied
-use Rattle.promises.specs.Newest.{Says, Readable}
+use Rattle.promises.specs.Newest.{Says}
 use Rattle.promises.specs.Shown.{lineRecord, dataCount}
 use Rattle.promises.proofs.Parts.{by-means}
 use Rattle.promises.proofs.Turns as turns

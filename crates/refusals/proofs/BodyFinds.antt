@@ -10,12 +10,11 @@ use lib.IntN.{pos}
 use lib.ListN.{length}
 use lib.Seq.{slice}
 use borrow.Author.Tests.{eqb-true, eq-eqb, leb-true, le-leb}
-use Rattle.words.specs.Tests.{pick, bothOf}
+use Rattle.words.specs.Tests.{bothOf}
 use Rattle.words.specs.Words.{fourAt, placeOf}
 use Rattle.words.proofs.Laws.{both-l, both-r}
 use Rattle.words.proofs.Table.{every}
 use Rattle.decimal.specs.Forms.{widthOf, shapeOf}
-use Rattle.decimal.specs.Text.{bytes}
 use Rattle.decimal.specs.declared.Form.{Form}
 use Rattle.decimal.specs.declared.Form.the-variants.{I4, I6, I8, I16, F8d3, F16d7, E20d13}
 use Rattle.decimal.specs.declared.Shape.the-variants.{Whole}
@@ -25,21 +24,19 @@ use Rattle.fields.specs.declared.Listed.{Listed}
 use Rattle.plan.specs.Tables.{slotOf}
 use Rattle.plan.specs.Plan.{firstLength}
 use Rattle.plan.specs.declared.Plan.{Plan}
-use Rattle.plan.specs.declared.Slot.{Slot}
-use Rattle.verdicts.specs.Tests.{Test, firstFault, andThen, textAt, each, numberOf}
+use Rattle.verdicts.specs.Tests.{firstFault, textAt, each, numberOf}
 use Rattle.verdicts.specs.Numbers.{Number, numberAt, rowTests, numbersTests}
 use Rattle.verdicts.specs.declared.Verdict.{Verdict}
-use Rattle.verdicts.specs.declared.Verdict.the-variants.{Fine, Fault}
+use Rattle.verdicts.specs.declared.Verdict.the-variants.{Fine}
 use Rattle.volume.specs.Volume.{classText, volumeNumbers, volumeTests, pointerNumbers, pointerTests, volumeRecord}
 use Rattle.leader.specs.Leader.{pairs, countAt, pairTests, leaderTests, listedTests, fieldsTests, leaderRecord}
 use Rattle.leader.specs.declared.Pair as declared
 use Rattle.image.specs.Image.{imageNumbers, agreeTests, agreements, imageTests, lineTests, imageRecord}
 use Rattle.bodies.specs.Bodies.{trailerTests, bodyTests, bodyOf}
 use Rattle.promises.specs.Rules.{Kind, volume, leader, image, trailer, kindNumber, classOf}
-use Rattle.promises.specs.Newest.{Numbered}
 use Rattle.promises.proofs.Parts.{field-reads}
 use Rattle.promises.proofs.BodyIs.{Long, class-text, other-volume, other-leader, of-line}
-use Rattle.refusals.specs.Refusals.{Rule, AllHold, number, listed, pair, SaysNumber, firstBody, pointerBody, summaryBody, mapBody, lineBody}
+use Rattle.refusals.specs.Refusals.{Rule, number, listed, pair, SaysNumber, firstBody, pointerBody, summaryBody, mapBody, lineBody}
 use Rattle.refusals.specs.Refusals.{nothing, agreement}
 use Rattle.refusals.specs.Refusals as rules
 use Rattle.refusals.proofs.Finds.{Finds, finds-none, finds-then, first-then, finds-each, rulesOf, Every}

@@ -1,13 +1,13 @@
 -- What a list of tests finds first is the first rule broken: one test beside one rule, and lists one after the other.
-use Prim.Native.Nat.{ℕ, zero, suc, _+_, _*_, _≤_, _<_}
+use Prim.Native.Nat.{ℕ, _+_}
 use mathlib.Core.Path.{_≡_, refl, sym, ap, _∙_, subst}
-use mathlib.Core.Logic.{_⊎_, inl, inr}
+use mathlib.Core.Logic.{inl, inr}
 use mathlib.Core.List.{List, [], _∷_, _++_}
-use mathlib.Core.Bool.{Bool, true, false, false≢true}
+use mathlib.Core.Bool.{Bool, true, false}
 use native.Mathlib.Omega.{arith}
 use Rattle.words.specs.Tests.{pick}
 use Rattle.words.specs.Words.{placeOf}
-use Rattle.verdicts.specs.Tests.{Test, test, firstFault, andThen, each}
+use Rattle.verdicts.specs.Tests.{Test, firstFault, andThen, each}
 use Rattle.verdicts.specs.declared.Verdict.{Verdict}
 use Rattle.verdicts.specs.declared.Verdict.the-variants.{Fine, Fault}
 use Rattle.refusals.specs.Refusals.{Rule, AllHold, FirstWrong}

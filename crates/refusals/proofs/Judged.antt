@@ -6,9 +6,9 @@ use mathlib.Core.Logic.{_↔_, ⊎-elim}
 use mathlib.Core.List.{List, [], _∷_}
 use mathlib.Core.Bool.{Bool, true, false}
 use native.Mathlib.Omega.{arith}
-use lib.Dec.{eqb, leb, ltb}
+use lib.Dec.{eqb, ltb}
 use lib.ListN.{length, take}
-use borrow.Author.Tests.{eqb-true, eqb-false, ne-eqb, ltb-true, ltb-false}
+use borrow.Author.Tests.{eqb-false, ne-eqb, ltb-true, ltb-false}
 use Rattle.words.specs.Tests.{pick}
 use Rattle.words.specs.declared.Refusal.{Refusal}
 use Rattle.words.proofs.Laws.{cases}
@@ -20,12 +20,11 @@ use Rattle.verdicts.specs.declared.Verdict.the-variants.{Fine, Fault}
 use Rattle.headers.specs.Header.{headerOf}
 use Rattle.bodies.specs.Bodies.{bodyOf}
 use Rattle.turns.specs.Turn.{refusedAt, onFine, judgeOf, endedOf, shortOf}
-use Rattle.turns.specs.declared.Stop.{Stop}
 use Rattle.turns.specs.declared.Stop.the-variants.{Wait, Complete, Refused}
 use Rattle.turns.specs.declared.Turn.the-variants.{Pass, Halt}
 use Rattle.turns.proofs.TurnLaws.{judge-ended, judge-twelve, judge-fault, judge-part, judge-body}
 use Rattle.promises.proofs.Turns.{halt-same, pass≢halt, refused-same, wait≢refused, complete≢refused}
-use Rattle.refusals.specs.Refusals.{Asked, AllHold, FirstWrong, header, Wrong, behind, short, head, part, body}
+use Rattle.refusals.specs.Refusals.{Asked, AllHold, header, Wrong, behind, short, head, part, body}
 use Rattle.refusals.proofs.Finds.{Finds, finds-fine, finds-fault}
 
 -- a refusal by its numbers

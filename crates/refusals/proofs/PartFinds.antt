@@ -1,16 +1,16 @@
 -- The tests of a record's parts find the first of the rules that `Refusals` writes for it: a text, a header, a number field, a listed field and a
 -- leader's pair, each by the cases of what the bytes say.
-use Prim.Native.Nat.{ℕ, zero, suc, _+_, _≤_, _<_}
+use Prim.Native.Nat.{ℕ, _+_, _≤_}
 use Prim.Native.String.{String}
-use mathlib.Core.Path.{_≡_, refl, sym, ap, _∙_, subst}
+use mathlib.Core.Path.{_≡_, refl, sym, _∙_, subst}
 use mathlib.Core.Logic.{_⊎_, inl, inr}
 use mathlib.Core.List.{List, [], _∷_, _++_}
 use mathlib.Core.Bool.{Bool, true, false, false≢true}
 use native.Mathlib.Omega.{arith}
 use lib.Dec.{eqb}
 use lib.IntN.{ℤ, pos, negsuc}
-use lib.ListN.{length, take, drop}
-use borrow.Author.Tests.{eqb-true, eqb-false, eq-eqb, ne-eqb}
+use lib.ListN.{length}
+use borrow.Author.Tests.{eqb-true, eqb-false, eq-eqb}
 use Rattle.words.specs.Tests.{pick, withinOf}
 use Rattle.words.specs.Words.{fourAt, placeOf}
 use Rattle.words.proofs.Laws.{within-true, within-false}
@@ -24,21 +24,17 @@ use Rattle.decimal.specs.declared.Written.the-variants.{Number, Blank, Bad}
 use Rattle.decimal.proofs.Answer as answer
 use Rattle.fields.specs.Field.{fieldBytes, fromWritten}
 use Rattle.fields.specs.declared.Field.{Field}
-use Rattle.fields.specs.declared.Field.the-variants.{Value}
 use Rattle.plan.specs.declared.Codes.{Codes}
-use Rattle.plan.specs.declared.Slot.{Slot}
-use Rattle.verdicts.specs.Tests.{Test, test, firstFault, textAt, textTest, readable?, numberTests, countTests, readableTest, numberOf, wholeIn}
-use Rattle.verdicts.specs.Numbers.{at, numberAt}
+use Rattle.verdicts.specs.Tests.{Test, firstFault, textAt, numberTests, countTests, readableTest, numberOf, wholeIn}
+use Rattle.verdicts.specs.Numbers.{at}
 use Rattle.verdicts.specs.declared.Verdict.{Verdict}
 use Rattle.verdicts.specs.declared.Verdict.the-variants.{Fine, Fault}
 use Rattle.headers.specs.Header.{codesAre, headerTests, headerOf}
-use Rattle.leader.specs.Leader.{countAt, slotTests}
-use Rattle.leader.specs.declared.Pair as declared
 use Rattle.promises.specs.Rules.{Text}
-use Rattle.promises.specs.Newest.{Says, Numbered, Readable}
-use Rattle.promises.proofs.Parts.{CodedBy, codes-to, codes-from, text-is, by-means, field-reads, no-exponent}
-use Rattle.refusals.specs.Refusals.{Rule, AllHold, FirstWrong, header, text, SomeNumber, number, listed, Counts, pair}
-use Rattle.refusals.proofs.Finds.{Finds, finds-none, finds-then, finds-test}
+use Rattle.promises.specs.Newest.{Says, Numbered}
+use Rattle.promises.proofs.Parts.{CodedBy, codes-to, codes-from, text-is, by-means, no-exponent}
+use Rattle.refusals.specs.Refusals.{Rule, FirstWrong, header, text, SomeNumber, number, listed, Counts, pair}
+use Rattle.refusals.proofs.Finds.{Finds, finds-none, finds-test}
 
 -- ---- texts and headers
 

@@ -3,7 +3,7 @@ use Prim.Native.Nat.{ℕ}
 use mathlib.Core.Path.{_≡_, ap, ap₂, _∙_}
 use native.Mathlib.Omega.{arith}
 use lib.IntN.{pos}
-use Rattle.words.specs.Answer.{Answer, Word, refused, refusedAs}
+use Rattle.words.specs.Answer.{Answer, refused, refusedAs}
 use Rattle.words.specs.declared.Refusal.{Refusal}
 use Rattle.fields.specs.Field.{fieldAs}
 use Rattle.fields.specs.declared.Field.{Field}

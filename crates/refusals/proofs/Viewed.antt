@@ -1,34 +1,33 @@
 -- A line view and a row copy refuse exactly where `Questions` says so: the first record as in the walk, then the line under the plan that it names,
 -- whose tests find the first of its rules.
-use Prim.Native.Nat.{ℕ, suc, _+_, _-_, _*_, _≤_, _<_}
+use Prim.Native.Nat.{ℕ, suc, _+_, _-_, _*_, _≤_}
 use mathlib.Core.Path.{_≡_, refl, sym, ap, _∙_, subst}
 use mathlib.Core.Logic.{_↔_}
-use mathlib.Core.List.{List, [], _∷_, _++_}
+use mathlib.Core.List.{List, []}
 use mathlib.Core.Bool.{Bool, true, false}
 use native.Mathlib.Omega.{arith}
 use native.Mathlib.Numerals.{add-one}
 use lib.Dec.{ltb}
 use lib.ListN.{length, take, drop}
-use borrow.Author.Tests.{ltb-true, ltb-false, lt-ltb}
-use Rattle.words.specs.Tests.{pick, withinOf}
+use borrow.Author.Tests.{ltb-true, ltb-false}
+use Rattle.words.specs.Tests.{withinOf}
 use Rattle.words.specs.Answer.{bareRefusal, refusedAs}
 use Rattle.words.specs.declared.Refusal.{Refusal}
 use Rattle.words.proofs.Laws.{within-true, within-false, true-within}
-use Rattle.plan.specs.Plan.{group, dueOf, lineCodes, firstLength}
+use Rattle.plan.specs.Plan.{lineCodes, firstLength}
 use Rattle.plan.specs.Plan as plan
 use Rattle.plan.specs.declared.Plan.{Plan}
 use Rattle.plan.specs.declared.Due.{Due}
 use Rattle.headers.specs.Header.{headerOf}
 use Rattle.bodies.specs.Bodies.{bodyOf}
-use Rattle.verdicts.specs.Tests.{andThen}
 use Rattle.verdicts.specs.declared.Verdict.{Verdict}
 use Rattle.verdicts.specs.declared.Verdict.the-variants.{Fine, Fault}
 use Rattle.turns.specs.declared.Stop.{Stop}
 use Rattle.turns.specs.declared.Stop.the-variants as stop
 use Rattle.walk.specs.State.{fresh}
-use Rattle.walk.specs.Walk.{walkOf, nextOf}
+use Rattle.walk.specs.Walk.{nextOf}
 use Rattle.walk.specs.declared.Walked.{Walked}
-use Rattle.lines.specs.View.{onVerdict, foundIn, shownOf, recordAt, lineAt, lineOf, behindFirst, firstOf, viewOf}
+use Rattle.lines.specs.View.{onVerdict, foundIn, shownOf, lineAt, lineOf, behindFirst, firstOf, viewOf}
 use Rattle.lines.specs.Said.{viewAs}
 use Rattle.lines.specs.declared.View.{View}
 use Rattle.lines.specs.declared.View.the-variants.{Shown, Wait, Refused}
@@ -41,7 +40,7 @@ use Rattle.promises.proofs.Counted.{open-never-complete}
 use Rattle.promises.proofs.Parts.{CodedBy}
 use Rattle.promises.proofs.LineNamed.{lineAs, as-due, first-there}
 use Rattle.promises.proofs.FirstPasses.{first-step, first-same}
-use Rattle.refusals.specs.Refusals.{FirstWrong, firstAsked, Wrong}
+use Rattle.refusals.specs.Refusals.{FirstWrong}
 use Rattle.refusals.specs.Refusals as refusals
 use Rattle.refusals.specs.Questions.{lineRules, ViewRefuses, first, outside, line}
 use Rattle.refusals.proofs.Finds.{Finds, finds-then, finds-fault}
@@ -83,7 +82,8 @@ module _ (g : ℕ) (p : Plan) (k : ℕ) (bs : List ℕ) where
   unfolding foundIn
   line-finds =
       finds-then (headerOf (k + 1) (lineCodes 0) (p .l) (lineRecord p k bs)) (bodyOf plan.image 1 p k (lineRecord p k bs)) _ _
-      (subst (λ (o : ℕ). Finds (headerOf (k + 1) (lineCodes 0) (p .l) (lineRecord p k bs)) (refusals.header o (CodedBy (lineCodes 0)) (p .l) (lineRecord p k bs)))
+      (subst (λ (o : ℕ). Finds (headerOf (k + 1) (lineCodes 0) (p .l) (lineRecord p k bs))
+      (refusals.header o (CodedBy (lineCodes 0)) (p .l) (lineRecord p k bs)))
       (add-one k) (header-finds (k + 1) (lineCodes 0) (p .l) (lineRecord p k bs)))
       (λ e. body-finds image p 1 k (lineRecord p k bs) tt)
 

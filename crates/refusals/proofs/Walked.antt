@@ -6,7 +6,7 @@ use mathlib.Core.Logic.{_↔_, _≢_}
 use mathlib.Core.List.{List, [], _∷_, _++_, append-assoc}
 use mathlib.Core.Bool.{Bool, true}
 use native.Mathlib.Omega.{arith}
-use lib.ListN.{length, take, drop, take-append-drop, length-append, length-drop}
+use lib.ListN.{length, take, drop, take-append-drop, length-append}
 use lib.Seq.{take-at, drop-at, length-take-le}
 use Rattle.words.specs.Answer.{refusedAs}
 use Rattle.words.specs.declared.Refusal.{Refusal}
@@ -14,8 +14,8 @@ use Rattle.plan.specs.Tables.{rows}
 use Rattle.plan.specs.Plan.{firstLength, spotOf, totalOf, planGood, zeroPlan}
 use Rattle.plan.specs.declared.Plan.{Plan}
 use Rattle.walk.specs.Said.{stopAs}
-use Rattle.walk.specs.State.{fresh, nextDue}
-use Rattle.walk.specs.Walk.{turnOf, nextOf, walkOf}
+use Rattle.walk.specs.State.{fresh}
+use Rattle.walk.specs.Walk.{turnOf, walkOf}
 use Rattle.walk.specs.declared.State.{State}
 use Rattle.walk.specs.declared.Walked.{Walked}
 use Rattle.walk.proofs.LoopLaws.{walk-pause, walk-halt, walk-pass}
@@ -34,7 +34,8 @@ use Rattle.promises.proofs.AnyEdition.{first-size, same-promised}
 use Rattle.promises.proofs.FirstIs.{first-is, first-names}
 use Rattle.promises.proofs.FirstPasses.{one-turn}
 use Rattle.promises.proofs.LaterIs.{due, dueAt, Judged, later-is}
-use Rattle.promises.proofs.Accepts.{behind, good-behind, next-behind, one-due, due-some, good-fresh, planned, next-fresh, fresh-is, plan-good, plan-counts, plan-lengths}
+use Rattle.promises.proofs.Accepts.{behind, good-behind, next-behind, one-due, due-some, good-fresh, planned, next-fresh, fresh-is, plan-good}
+use Rattle.promises.proofs.Accepts.{plan-counts, plan-lengths}
 use Rattle.refusals.specs.Refusals.{Asked, firstAsked, laterAsked, Wrong, Before, none, some, Refuses}
 use Rattle.refusals.proofs.Said.{said-refused}
 use Rattle.refusals.proofs.AskedIs.{later-told, first-told, same-asked}
@@ -57,7 +58,8 @@ module _ (kind : Kind) (p : Plan) (good : planGood (kindNumber kind) p ≡ true)
       ordinal : x .«record» ≡ suc (suc (j + length records))
       place : x .place ≡ dueAt kind p j .start + length (concat records) + at
 
-    refused-later : (n j : ℕ) (b : List ℕ) → suc j ≤ totalOf (kindNumber kind) p → (x : Refusal) → walkOf n (behind kind p j) b c .stop ≡ Refused x → Later j b x
+    refused-later : (n j : ℕ) (b : List ℕ) → suc j ≤ totalOf (kindNumber kind) p → (x : Refusal) → walkOf n (behind kind p j) b c .stop ≡ Refused x
+        → Later j b x
     refused-later zero j b h x e =
         absurd (pause≢refused (sym (stop-of _ _ (walk-pause (behind kind p j) b c (good-behind kind p good cl ll j h))) ∙ e))
     refused-later (suc n) j b h x e = go (refused-later n (suc j)) (turnOf (behind kind p j) b c) refl
@@ -163,7 +165,8 @@ module _ (kind : Kind) (p : Plan) (good : planGood (kindNumber kind) p ≡ true)
             let same = ap (λ (b : List ℕ). walkOf (suc n) (behind kind p j) b c .stop) assoc ∙ on g y in
             let z = y .size in
             same
-            ∙ more (omega arith) (f′ .1) (subst (λ (m : ℕ). Wrong c (suc m) left (x .number) q (drop m (laterAsked kind p))) i w) (o ∙ ap (λ (m : ℕ). suc (suc m)) i)
+            ∙ more (omega arith) (f′ .1) (subst (λ (m : ℕ). Wrong c (suc m) left (x .number) q (drop m (laterAsked kind p))) i w)
+            (o ∙ ap (λ (m : ℕ). suc (suc m)) i)
             (a ∙ omega (arith, end-to-end (kindNumber kind) p (suc j), length-append r (concat rs))) (λ s. t (same ∙ s))
 
 -- ---- from the first record on
@@ -253,7 +256,8 @@ module _ (kind : Kind) (bs : List ℕ) (c : Bool) (x : Refusal) where
         ∙ later-refused kind q good (plan-counts kind (take l bs)) (plan-lengths kind (take l bs)) c rs n 0 left at x (one-total k q) follows′ wrong′
         (ordinal ∙ ap (λ (m : ℕ). suc (suc m)) i) (place ∙ omega (arith, size, end-to-end k q 0)) (λ s. t (same ∙ s))
 
-  pub refused-from : (n : ℕ) → walkOf n (fresh (kindNumber kind)) bs c .stop ≢ Pause → Refuses kind c bs x → walkOf n (fresh (kindNumber kind)) bs c .stop ≡ Refused x
+  pub refused-from : (n : ℕ) → walkOf n (fresh (kindNumber kind)) bs c .stop ≢ Pause → Refuses kind c bs x
+      → walkOf n (fresh (kindNumber kind)) bs c .stop ≡ Refused x
   refused-from n t y = go (y .passed) (y .start) (y .left) (y .next) (y .before) (y .wrong) (y .ordinal) (y .place)
     where
       go : (k start : ℕ) (left : List ℕ) (next : List Asked) → Before kind bs k start left next → Wrong c k left (x .number) (y .at) next

@@ -1,5 +1,5 @@
--- Refusals of what is asked beside the walk (document 01, "Refusal numbers" and "Lines, rows, sets"): to begin (1), with a state (11), a set against its directory
--- (12), a line of an image held from byte 0 (13), a listed field (14), a row of samples (15); each with what goes before it, in the words of `Rules`,
+-- Refusals of what is asked beside the walk (document 01, "Refusal numbers" and "Lines, rows, sets"): to begin (1), with a state (11), a set against its
+-- directory (12), a line of an image held from byte 0 (13), a listed field (14), a row of samples (15); each with what goes before it, in the words of `Rules`,
 -- `Shown` and `Refusals`. No test of the code occurs here. Assumes nothing.
 use Prim.Native.Nat.{ℕ, suc, _+_, _-_, _*_, _≤_, _<_}
 use mathlib.Core.Path.{_≡_}
