@@ -58,7 +58,7 @@ says k bs = go (eqb (length bs) (widthOf k)) refl
     go : (b : Bool) → eqb (length bs) (widthOf k) ≡ b → Means k bs (written k bs)
     go true e =
         let l = eqb-true (length bs) (widthOf k) e in
-        found (written k bs) l refl (subst (Found (shapeOf k) bs) (sym (laws.wide k bs l)) (sound (shapeOf k) bs (fits-length k bs l)))
+        found (written k bs) l refl (subst (Found (shapeOf k) bs) (sym (laws.wide k bs l)) (sound (shapeOf k) bs))
     go false e =
         let q = laws.not-wide k bs (eqb-false (length bs) (widthOf k) e) in
         subst (Means k bs) (sym q) (refused q)

@@ -7,10 +7,10 @@ use native.Mathlib.Omega.{arith}
 use lib.Dec.{eqb, leb}
 use lib.ListN.{length, getD, take, drop, replicate, take-append-drop, length-drop}
 use lib.Seq.{split-at, length-take-le}
-use borrow.Author.Tests.{eqb-true, leb-true}
+use borrow.Author.Tests.{eqb-true, leb-true, leb-false}
 use Rattle.words.specs.Tests.{pick}
 use Rattle.digits.specs.Segments.{afterBlanks, digitsOf, withSign, signOf, headOf, onPart, mantissaOf, exponentOf}
-use Rattle.decimal.specs.Scan.{numberIn, decimalOf, orBlank, plainOf, scaledOf, Fit}
+use Rattle.decimal.specs.Scan.{numberIn, decimalOf, orBlank, plainOf, scaledOf}
 use Rattle.decimal.specs.Grammar.{Numeral, after, Sign, plus, minus, mark, negative, Lead, bare, with, signedOf, Good, blank, whole, fixed, expo}
 use Rattle.decimal.proofs.Spelt.{dot, Spelt, spelt, to-whole, to-point}
 use Rattle.decimal.specs.declared.Shape.{Shape}
@@ -118,6 +118,25 @@ abbrev dots : Bool → ℕ
 dots true = 1
 dots false = 0
 
+-- a point that was read stands behind the front of bs, not at the first of its places: that byte would be a point and a digit at once
+point-first : (bs : List ℕ) (a n : ℕ) → eqb (getD bs 0 0) 46 ≡ true → digitsOf a bs ≡ Count n → ⊥
+point-first [] a n p e = omega (arith, eqb-true 0 46 p)
+point-first (c ∷ cs) a n p e = omega (arith, eqb-true c 46 p, digits a (c ∷ cs) n e .0 .0)
+
+-- so a mantissa with a point has more bytes than places
+long-enough : (d : ℕ) (bs : List ℕ) (s : Bool) (a : ℕ) → mantissaOf true d bs ≡ Signed s a → d + 1 ≤ length bs
+unfolding mantissaOf
+long-enough d bs s a e = go (leb (d + 1) (length bs)) refl
+  where
+    go : (b : Bool) → leb (d + 1) (length bs) ≡ b → d + 1 ≤ length bs
+    go true l = leb-true (d + 1) (length bs) l
+    go false l =
+        let x = taken (take (length bs - d - 1) bs) (eqb (getD bs (length bs - d - 1) 0) 46) (drop (length bs - d) bs) s a e in
+        let z : length bs - d ≡ 0 = omega (arith, leb-false (d + 1) (length bs) l) in
+        absurd
+        (point-first bs (x .number) a (subst (λ (n : ℕ). eqb (getD bs (n - 1) 0) 46 ≡ true) z (x .point))
+        (subst (λ (n : ℕ). digitsOf (x .number) (drop n bs) ≡ Count a) z (x .places)))
+
 mantissa : (p : Bool) (d : ℕ) (bs : List ℕ) (s : Bool) (a : ℕ) → d + dots p ≤ length bs → mantissaOf p d bs ≡ Signed s a → Spelt p d bs s a
 unfolding mantissaOf
 mantissa true d bs s a l e =
@@ -172,7 +191,12 @@ scaled d fs xs s a t n w x l q =
     (subst₂ (λ (u : Bool) (m : ℕ). Good (Expo d) (fs ++ 69 ∷ (mark (x .sign) ∷ x .rest)) (Number (signedOf s a) (signedOf u m))) (x .minus?) (x .value)
     (expo (to-point w) (x .sign) (x .rest) (x .numeral) (omega (arith, ap length (x .bytes)))))
 
-number : (k : Shape) (bs : List ℕ) → Fit k (length bs) → Found k bs (numberIn k bs)
+-- bytes that are not all blank are not none
+some : (bs : List ℕ) (c : ℕ) (cs : List ℕ) → afterBlanks bs ≡ c ∷ cs → 1 ≤ length bs
+some [] c cs e = let z : _≡_ {A = ℕ} 0 1 = cc in omega arith
+some (b ∷ bs) c cs e = omega arith
+
+number : (k : Shape) (bs : List ℕ) → 1 ≤ length bs → Found k bs (numberIn k bs)
 unfolding numberIn
 number Whole bs f = go (mantissaOf false 1 bs) refl
   where
@@ -182,27 +206,28 @@ number Whole bs f = go (mantissaOf false 1 bs) refl
 number (Fixed d) bs f = go (mantissaOf true d bs) refl
   where
     go : (x : Part) → mantissaOf true d bs ≡ x → Found (Fixed d) bs (plainOf x)
-    go (Signed s a) q = good (fixed (to-point (mantissa true d bs s a (omega arith) q)))
+    go (Signed s a) q = good (fixed (to-point (mantissa true d bs s a (long-enough d bs s a q) q)))
     go Wrong q = none
 number (Expo d) bs f = go (mantissaOf true d (take (length bs - 4) bs)) (exponentOf (drop (length bs - 4) bs)) refl refl
   where
     go : (x y : Part) → mantissaOf true d (take (length bs - 4) bs) ≡ x → exponentOf (drop (length bs - 4) bs) ≡ y → Found (Expo d) bs (scaledOf x y)
     go (Signed s a) (Signed t n) p q =
+        let l = long-enough d (take (length bs - 4) bs) s a p in
+        let m = length-take-le (length bs - 4) bs (omega arith) in
         good
-        (scaled d (take (length bs - 4) bs) (drop (length bs - 4) bs) s a t n
-        (mantissa true d (take (length bs - 4) bs) s a (rw (length-take-le (length bs - 4) bs (omega arith)) (omega arith)) p)
+        (scaled d (take (length bs - 4) bs) (drop (length bs - 4) bs) s a t n (mantissa true d (take (length bs - 4) bs) s a l p)
         (exponent (drop (length bs - 4) bs) t n q) (rw length-drop (omega arith)) (sym (take-append-drop (length bs - 4) bs)))
     go (Signed s a) Wrong p q = none
     go Wrong y p q = none
 
--- what is read of bytes that a shape fits is well written, or is that they are badly written
-pub sound : (k : Shape) (bs : List ℕ) → Fit k (length bs) → Found k bs (decimalOf k bs)
+-- what is read of any bytes is well written, or is that they are badly written
+pub sound : (k : Shape) (bs : List ℕ) → Found k bs (decimalOf k bs)
 unfolding decimalOf
-sound k bs f = go (afterBlanks bs) refl
+sound k bs = go (afterBlanks bs) refl
   where
     go : (xs : List ℕ) → afterBlanks bs ≡ xs → Found k bs (orBlank xs (numberIn k bs))
     go [] e =
         let b = blanks bs in
         subst (λ (t : List ℕ). Found k t Blank) (sym (b .1 ∙ ap (λ (l : List ℕ). replicate (b .0) 32 ++ l) e ∙ append-nil (replicate (b .0) 32)))
         (good (blank k (b .0)))
-    go (c ∷ cs) e = number k bs f
+    go (c ∷ cs) e = number k bs (some bs c cs e)
