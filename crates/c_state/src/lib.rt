@@ -4,53 +4,34 @@ use plan::Plan;
 use walk::State;
 ghost use mathlib.Core.Path.{_≡_};
 ghost use mathlib.Core.List.{_++_};
-ghost use Prim.Native.Nat.{_<_, _≤_};
+ghost use Prim.Native.Nat.{_≤_};
 ghost use lib.ListN.{length, drop};
-ghost use Rattle.c_state.specs.Numbers.{pairNumber, stateNumber, numbersOf, everySecond, stateIn};
+ghost use Rattle.c_state.specs.Numbers.{numbersOf, everySecond, stateIn};
 
 // How many numbers a state has.
 pub const NUMBERS: usize = 42;
 
-// Number j of a plan's pairs: count and length in turn.
-fn pair_number(p: Plan, j: usize) -> u64
-    requires { ⌜ j < 34 ⌝ }
-    ensures { λ r. ⌜ r ≡ pairNumber p j ⌝ }
-{
-    let c = p.counts;
-    let l = p.lengths;
-    if j % 2 == 0 {
-        return c[j / 2];
-    }
-    l[j / 2]
-}
-
-// Number i of a state.
-fn number(st: State, i: usize) -> u64
-    requires { ⌜ i < 42 ⌝ }
-    ensures { λ r. ⌜ r ≡ stateNumber st i ⌝ }
-{
-    let p = st.plan;
-    if i < 3 {
-        let first = [st.kind, st.passed, p.pointers];
-        return first[i];
-    }
-    if i < 37 {
-        return pair_number(p, i - 3);
-    }
-    let last = [p.n, p.l, p.w, p.d, p.s];
-    last[i - 37]
-}
-
-// A state's numbers to the start of the state array; later numbers stay.
+// A state's numbers to the start of the state array, each by a store of its own; later numbers stay.
 pub fn put(st: State, state: &mut [u64])
     requires { ⌜ 42 ≤ length (now state) ⌝ }
     ensures { λ _. ⌜ now (state .exit) ≡ numbersOf st ++ drop 42 (now (state .entry)) ⌝ }
 {
-    let mut i: usize = 0;
-    while i < NUMBERS {
-        state[i] = number(st, i);
-        i += 1;
+    let c = st.plan.counts;
+    let l = st.plan.lengths;
+    state[0] = st.kind;
+    state[1] = st.passed;
+    state[2] = st.plan.pointers;
+    let mut j: usize = 0;
+    while j < plan::ROWS {
+        state[3 + 2 * j] = c[j];
+        state[4 + 2 * j] = l[j];
+        j += 1;
     }
+    state[37] = st.plan.n;
+    state[38] = st.plan.l;
+    state[39] = st.plan.w;
+    state[40] = st.plan.d;
+    state[41] = st.plan.s;
 }
 
 // Every second number from number i on: the counts, or the lengths.

@@ -1,11 +1,11 @@
 -- The row's start, sample by sample: samples one more at a time, each where it stands, and what a copy leaves of the row behind them.
-use Prim.Native.Nat.{ℕ, zero, suc, _+_, _-_, _*_, _≤_, _<_}
+use Prim.Native.Nat.{ℕ, zero, suc, _+_, _*_, _≤_, _<_}
 use mathlib.Core.Path.{_≡_, refl, sym, ap, _∙_}
 use mathlib.Core.List.{List, [], _∷_, _++_}
 use native.Mathlib.Omega.{arith}
 use native.Mathlib.Nat.{add-zero, zero-add}
-use lib.ListN.{length, getD, set, take, drop, length-set}
-use lib.Seq.{set-at, drop-at, drop-cons, drop-drop, append-snoc}
+use lib.ListN.{length, getD, set, take, drop}
+use lib.Seq.{set-at, drop-cons, append-snoc}
 use borrow.Author.Tests.{lt-ltb, le-ltb}
 use Rattle.words.specs.Words.{twoAt}
 use Rattle.words.specs.Answer.{bareRefusal}
@@ -49,40 +49,6 @@ row-more n m at v px row now h a g q e =
     ∙ ap (λ (x : ℕ). (samples n px ++ (x ∷ [])) ++ drop (suc n) row) (e ∙ ap (λ (i : ℕ). twoAt px i) (g ∙ ap (λ (i : ℕ). group * i) (sym (zero-add n))))
     ∙ ap (λ (l : List ℕ). l ++ drop (suc n) row) (sym (samples-more 0 n px))
     ∙ ap (λ (i : ℕ). samples i px ++ drop i row) (let s : suc n ≡ m = omega (arith, a) in s)
-
--- the row's length while four samples are written to it, and the row behind them
-module _ (n a b c : ℕ) (now : List ℕ) where
-  pub long-one : length (set now n a) ≡ length now
-  long-one = length-set now n a
-
-  pub long-two : length (set (set now n a) (n + 1) b) ≡ length now
-  long-two = length-set (set now n a) (n + 1) b ∙ long-one
-
-  pub long-three : length (set (set (set now n a) (n + 1) b) (n + 2) c) ≡ length now
-  long-three = length-set (set (set now n a) (n + 1) b) (n + 2) c ∙ long-two
-
-  pub row-four : (d : ℕ) (px row : List ℕ) → n + 4 ≤ length row → now ≡ samples n px ++ drop n row
-      → a ≡ twoAt px (group * n) → b ≡ twoAt px (group * n + 2) → c ≡ twoAt px (group * n + 4) → d ≡ twoAt px (group * n + 6)
-      → set (set (set (set now n a) (n + 1) b) (n + 2) c) (n + 3) d ≡ samples (n + 4) px ++ drop (n + 4) row
-  row-four d px row h q ea eb ec ed =
-      let one = row-more n (n + 1) (group * n) a px row now (omega arith) refl refl q ea in
-      let two = row-more (n + 1) (n + 2) (group * n + 2) b px row (set now n a) (omega arith) (omega arith) (omega arith) one eb in
-      let three = row-more (n + 2) (n + 3) (group * n + 4) c px row (set (set now n a) (n + 1) b) (omega arith) (omega arith) (omega arith) two ec in
-      row-more (n + 3) (n + 4) (group * n + 6) d px row (set (set (set now n a) (n + 1) b) (n + 2) c) (omega arith) (omega arith) (omega arith) three ed
-
--- behind the samples that are written the row is the old one
-module _ (n : ℕ) (px row now : List ℕ) (q : now ≡ samples n px ++ drop n row) where
-  drop-same : drop n now ≡ drop n row
-  drop-same = ap (λ (l : List ℕ). drop n l) q ∙ drop-at (samples n px) (drop n row) n (length-samples 0 n px)
-
-  pub row-again : now ≡ samples n px ++ drop n now
-  row-again = q ∙ ap (λ (l : List ℕ). samples n px ++ l) (sym drop-same)
-
-  pub row-behind : (m : ℕ) → n ≤ m → drop m now ≡ drop m row
-  row-behind m h =
-      let e : n + (m - n) ≡ m = omega (arith, h) in
-      ap (λ (i : ℕ). drop i now) (sym e) ∙ sym (drop-drop (m - n) n now) ∙ ap (λ (l : List ℕ). drop (m - n) l) drop-same ∙ drop-drop (m - n) n row
-      ∙ ap (λ (i : ℕ). drop i row) e
 
 pub row-all : (n count : ℕ) (px row now : List ℕ) → n ≤ count → count ≤ n → now ≡ samples n px ++ drop n row → now ≡ samples count px ++ drop count row
 row-all n count px row now a b q = q ∙ ap (λ (m : ℕ). samples m px ++ drop m row) (let e : n ≡ count = omega arith in e)

@@ -4,7 +4,7 @@ use lines::View;
 use words::Refusal;
 ghost use mathlib.Core.Path.{_≡_};
 ghost use mathlib.Core.List.{_++_};
-ghost use Prim.Native.Nat.{_+_, _*_, _≤_};
+ghost use Prim.Native.Nat.{_+_, _*_, _≤_, _%_, _/_};
 ghost use lib.ListN.{length, drop};
 ghost use Rattle.words.specs.Words.{twoAt};
 ghost use Rattle.plan.specs.Plan.{group};
@@ -17,32 +17,24 @@ pub enum Copied {
     Refused(Refusal),
 }
 
+// Two bytes that are there, low byte first: the compiler reads them at once. Read and swapped by one
+// function they would be read one by one (docs/SPEED.md).
+fn pair(px: &[u8], at: usize) -> u16
+    requires { ⌜ at + 2 ≤ length (now px) ⌝ }
+    ensures { λ r. ⌜ r % 256 * 256 + r / 256 ≡ twoAt (now (px .entry)) at ⌝ }
+{
+    let low = px[at];
+    let high = px[at + 1];
+    high as u16 * 256 + low as u16
+}
+
 // A sample of two bytes that are there, high byte first.
 fn sample(px: &[u8], at: usize) -> u16
     requires { ⌜ at + 2 ≤ length (now px) ⌝ }
     ensures { λ r. ⌜ r ≡ twoAt (now (px .entry)) at ⌝ }
 {
-    let high = px[at];
-    let low = px[at + 1];
-    high as u16 * 256 + low as u16
-}
-
-// Four samples a turn while four are left, and how many that made: for speed alone (docs/SPEED.md),
-// since the compiler takes one sample a turn to slow code.
-fn write_fours(px: &[u8], count: usize, row: &mut [u16]) -> usize
-    requires { ⌜ (group * count ≤ length (now px)) × (count ≤ length (now row)) ⌝ }
-    ensures { λ n. ⌜ n ≤ count ⌝ }
-    ensures { λ n. ⌜ now (row .exit) ≡ samples n (now (px .entry)) ++ drop n (now (row .entry)) ⌝ }
-{
-    let mut j = 0;
-    while 4 <= count - j {
-        row[j] = sample(px, 2 * j);
-        row[j + 1] = sample(px, 2 * j + 2);
-        row[j + 2] = sample(px, 2 * j + 4);
-        row[j + 3] = sample(px, 2 * j + 6);
-        j += 4;
-    }
-    j
+    let x = pair(px, at);
+    x % 256 * 256 + x / 256
 }
 
 // That many samples of two bytes, high byte first, to the row's start; later samples stay.
@@ -50,7 +42,7 @@ fn write(px: &[u8], count: usize, row: &mut [u16])
     requires { ⌜ (group * count ≤ length (now px)) × (count ≤ length (now row)) ⌝ }
     ensures { λ _. ⌜ now (row .exit) ≡ samples count (now (px .entry)) ++ drop count (now (row .entry)) ⌝ }
 {
-    let mut j = write_fours(px, count, row);
+    let mut j = 0;
     while j < count {
         row[j] = sample(px, 2 * j);
         j += 1;

@@ -120,6 +120,20 @@ fn field(f: &[u8], shape: Shape) -> Written
     }
 }
 
+// What the bytes of a field of a whole number say, whose width the caller has seen to: `field` of that
+// shape, with the blanks looked at once (docs/SPEED.md).
+pub fn whole(f: &[u8]) -> Written
+    requires { ⌜ Fit Shape.Whole (length (now f)) ⌝ }
+    ensures { λ r. ⌜ r ≡ decimalOf Shape.Whole (now (f .entry)) ⌝ }
+{
+    let n = f.len();
+    let k = digits::skip(f, 0, n);
+    if k < n {
+        return plain(digits::whole(f, k));
+    }
+    Written::Blank
+}
+
 // What these bytes say as a field of this form. Bytes that are not as many as the form is wide are
 // badly written.
 pub fn read(f: &[u8], form: Form) -> Written

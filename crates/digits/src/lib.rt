@@ -5,6 +5,7 @@
 // that together they find what its grammar says.
 ghost use mathlib.Core.Path.{_≡_};
 ghost use Prim.Native.Nat.{_+_, _≤_, _<_, _^_};
+ghost use mathlib.Core.Bool.{false};
 ghost use lib.ListN.{length, take};
 ghost use Rattle.digits.specs.Segments.{Skipped, Read, Is, withSign, headOf, mantissaOf, exponentOf};
 
@@ -109,6 +110,30 @@ pub fn mantissa(f: &[u8], point: bool, places: usize) -> Part
             Part::Wrong => Part::Wrong,
         }
     }
+}
+
+// A whole number from its first byte that is no blank on: a sign or none, and digits, one at least. It
+// is what `mantissa` says of it, without looking at the blanks again (docs/SPEED.md).
+pub fn whole(f: &[u8], k: usize) -> Part
+    requires { ⌜ Skipped (now f) 0 (length (now f)) k ⌝ }
+    requires { ⌜ (k < length (now f)) × (length (now f) ≤ 18) ⌝ }
+    ensures { λ r. ⌜ Is 18 (mantissaOf false 1 (now (f .entry))) r ⌝ }
+{
+    let n = f.len();
+    let c = f[k];
+    if c == b'-' {
+        if k + 1 == n {
+            return Part::Wrong;
+        }
+        return with_sign(true, run(f, k + 1, n, 0));
+    }
+    if c == b'+' {
+        if k + 1 == n {
+            return Part::Wrong;
+        }
+        return with_sign(false, run(f, k + 1, n, 0));
+    }
+    with_sign(false, run(f, k, n, 0))
 }
 
 // `E`, a sign and two digits.

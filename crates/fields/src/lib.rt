@@ -6,6 +6,8 @@ use decimal::Written;
 use words::Refusal;
 ghost use mathlib.Core.Path.{_≡_};
 ghost use Prim.Native.Nat.{_<_};
+ghost use Rattle.decimal.specs.Forms.{widthOf};
+ghost use Rattle.fields.specs.Whole.{wholeForm};
 ghost use Rattle.fields.specs.Field.{fieldAt, fromWritten, refuse};
 ghost use Rattle.fields.specs.Listed.{row, listed, listedField};
 
@@ -41,8 +43,25 @@ fn from_written(w: Written, at: usize) -> Field
     }
 }
 
-// What the field of this form at a place says. Bytes that end before the field does are refusal 2.
-pub fn field_at(bytes: &[u8], at: usize, form: Form) -> Field
+// A whole number of n columns at a place, which is the width of its form. Bytes that end before the
+// field does are refusal 2.
+fn whole_at(bytes: &[u8], at: usize, n: usize) -> Field
+    requires { ⌜ widthOf (wholeForm n) ≡ n ⌝ }
+    ensures { λ r. ⌜ r ≡ fieldAt (now (bytes .entry)) at (wholeForm n) ⌝ }
+{
+    let len = bytes.len();
+    if len < n {
+        return refused(2, 0);
+    }
+    if len - n < at {
+        return refused(2, 0);
+    }
+    let end = at + n;
+    from_written(decimal::whole(&bytes[at..end]), at)
+}
+
+// A field of any form at a place, read by its form. Bytes that end before the field does are refusal 2.
+fn any_at(bytes: &[u8], at: usize, form: Form) -> Field
     ensures { λ r. ⌜ r ≡ fieldAt (now (bytes .entry)) at form ⌝ }
 {
     let n = decimal::width(form);
@@ -54,6 +73,20 @@ pub fn field_at(bytes: &[u8], at: usize, form: Form) -> Field
     }
     let end = at + n;
     from_written(decimal::read(&bytes[at..end], form), at)
+}
+
+// What the field of this form at a place says. Where the form is one of whole numbers, the compiler
+// knows its width here, and need not look it up (docs/SPEED.md).
+pub fn field_at(bytes: &[u8], at: usize, form: Form) -> Field
+    ensures { λ r. ⌜ r ≡ fieldAt (now (bytes .entry)) at form ⌝ }
+{
+    match form {
+        Form::I4 => whole_at(bytes, at, 4),
+        Form::I6 => whole_at(bytes, at, 6),
+        Form::I8 => whole_at(bytes, at, 8),
+        Form::I16 => whole_at(bytes, at, 16),
+        _ => any_at(bytes, at, form),
+    }
 }
 
 // A row of the table.

@@ -1,58 +1,151 @@
--- Each turn writes one number more: the array so far is the numbers written, then the old ones behind them.
-use Rattle.c_state.proofs.ListLaws.{written-more}
-use Rattle.c_state.specs.Numbers.{listFrom, stateNumber, numbersOf}
-use lib.ListN.{length, drop, set, length-set}
+-- Three numbers, then the pairs, then five: the array so far is the numbers written, then the old ones behind them.
+use Prim.Native.Nat.{ℕ, _+_, _-_, _*_, _≤_}
+use mathlib.Core.Path.{_≡_, refl, subst}
 use borrow.Author.Needs.{needs}
 use native.Mathlib.Omega.{arith}
-use mathlib.Core.List.{List, _++_}
-use mathlib.Core.Path.{_≡_, refl, ap, _∙_}
-use Prim.Native.Nat.{ℕ, _-_, _≤_}
+use lib.ListN.{length}
+use Rattle.plan.specs.Tables.{rows}
+use Rattle.c_state.proofs.PutLaws as laws
 use Rattle.c_state.proofs.put.Statement.{statement}
 use Rattle.c_state.proofs.put.Tie as tie
 
 abbrev Inv-loop : tie.InvT-loop
-Inv-loop st state₀ i₀ state i = (i ≤ 42) × (length state ≡ length state₀) × (state ≡ listFrom (stateNumber st) 0 i ++ drop i state₀)
+Inv-loop st state₀ c l j₀ state j =
+    (j ≤ rows) × (length state ≡ length state₀) × laws.Put st (3 + 2 * j) state₀ state
 
 abbrev μ-loop : tie.MeasureT-loop
-μ-loop st state₀ i₀ state i = 42 - i
-
-loop-holds : tie.Need-loop-holds Inv-loop μ-loop
-unfolding listFrom
-loop-holds c = (omega arith, refl, refl)
-
-number-requires : tie.Need-number-requires Inv-loop μ-loop
-number-requires c κs = search needs
-
-mul-state : tie.Need-mul-state Inv-loop μ-loop
-mul-state c = search needs
+μ-loop st state₀ c l j₀ state j = rows - j
 
 slice-write-state : tie.Need-slice-write-state Inv-loop μ-loop
 slice-write-state c = search needs
 
-add-i : tie.Need-add-i Inv-loop μ-loop
-add-i c = search needs
+slice-write-state-2 : tie.Need-slice-write-state-2 Inv-loop μ-loop
+slice-write-state-2 c =
+    let args = c .before .before .args in
+    let pre = c .before .before .pre in
+    laws.room-1 (args .st) (args .state .now) pre
+
+slice-write-state-3 : tie.Need-slice-write-state-3 Inv-loop μ-loop
+slice-write-state-3 c =
+    let args = c .before .before .args in
+    let pre = c .before .before .pre in
+    laws.room-2 (args .st) (args .state .now) pre
+
+loop-holds : tie.Need-loop-holds Inv-loop μ-loop
+loop-holds c =
+    let args = c .before .before .args in
+    let pre = c .before .before .pre in (omega arith, refl, laws.three-put (args .st) (args .state .now) pre)
+
+mul-state : tie.Need-mul-state Inv-loop μ-loop
+mul-state c = search needs
+
+array-read-state : tie.Need-array-read-state Inv-loop μ-loop
+array-read-state c = search needs
+
+mul-state-2 : tie.Need-mul-state-2 Inv-loop μ-loop
+mul-state-2 c = search needs
+
+add-state : tie.Need-add-state Inv-loop μ-loop
+add-state c = search needs
+
+mul-state-3 : tie.Need-mul-state-3 Inv-loop μ-loop
+mul-state-3 c = search needs
+
+slice-write-state-4 : tie.Need-slice-write-state-4 Inv-loop μ-loop
+slice-write-state-4 c =
+    let args = c .before .before .before .before .args in
+    let pre = c .before .before .before .before .pre in
+    let loop = c .before .loop in
+    laws.room (args .st) (args .state .now) pre (loop .state) (loop .inv .1) (3 + 2 * loop .j) (omega (arith, c .loop-test .taken))
+
+mul-state-4 : tie.Need-mul-state-4 Inv-loop μ-loop
+mul-state-4 c = search needs
+
+array-read-state-2 : tie.Need-array-read-state-2 Inv-loop μ-loop
+array-read-state-2 c = search needs
+
+mul-state-5 : tie.Need-mul-state-5 Inv-loop μ-loop
+mul-state-5 c = search needs
+
+add-state-2 : tie.Need-add-state-2 Inv-loop μ-loop
+add-state-2 c = search needs
+
+mul-state-6 : tie.Need-mul-state-6 Inv-loop μ-loop
+mul-state-6 c = search needs
+
+slice-write-state-5 : tie.Need-slice-write-state-5 Inv-loop μ-loop
+slice-write-state-5 c =
+    let args = c .before .before .before .before .args in
+    let pre = c .before .before .before .before .pre in
+    let loop = c .before .loop in
+    laws.pair-room (args .st) (args .state .now) pre (loop .state) (loop .inv .1) (loop .j) (c .loop-test .taken)
+
+add-j : tie.Need-add-j Inv-loop μ-loop
+add-j c = search needs
 
 loop-less : tie.Need-loop-less Inv-loop μ-loop
-loop-less c = omega (arith, c .before .loop-test .taken)
+loop-less c = search needs
 
 loop-again : tie.Need-loop-again Inv-loop μ-loop
-loop-again c = (
-  omega arith,
-  length-set (c .before .before .loop .state) (c .before .before .loop .i) _
-      ∙ c .before .before .loop .inv .1,
-  ap (λ (l : List ℕ). set l (c .before .before .loop .i) (c .number .result)) (c .before .before .loop .inv .2)
-      ∙ written-more (stateNumber (c .before .before .before .before .args .st)) (c .before .before .loop .i) (c .number .result)
-      (c .before .before .before .before .args .state .now) (omega arith) (c .number .ensures),
-)
+loop-again c =
+    let args = c .before .before .before .before .args in
+    let pre = c .before .before .before .before .pre in
+    let loop = c .before .loop in (
+      omega arith,
+      laws.pair-long (args .st) (args .state .now) pre (loop .state) (loop .inv .1) (loop .j),
+      laws.pair-put (args .st) (args .state .now) pre (loop .j) (loop .state) (c .loop-test .taken) (loop .inv .2),
+    )
+
+slice-write-state-6 : tie.Need-slice-write-state-6 Inv-loop μ-loop
+slice-write-state-6 c =
+    let args = c .before .before .before .before .args in
+    let pre = c .before .before .before .before .pre in
+    let loop = c .before .loop in
+    laws.room (args .st) (args .state .now) pre (loop .state) (loop .inv .1) 37 (omega arith)
+
+slice-write-state-7 : tie.Need-slice-write-state-7 Inv-loop μ-loop
+slice-write-state-7 c =
+    let args = c .before .before .before .before .args in
+    let pre = c .before .before .before .before .pre in
+    let loop = c .before .loop in
+    laws.room-38 (args .st) (args .state .now) pre (loop .state) (loop .inv .1)
+
+slice-write-state-8 : tie.Need-slice-write-state-8 Inv-loop μ-loop
+slice-write-state-8 c =
+    let args = c .before .before .before .before .args in
+    let pre = c .before .before .before .before .pre in
+    let loop = c .before .loop in
+    laws.room-39 (args .st) (args .state .now) pre (loop .state) (loop .inv .1)
+
+slice-write-state-9 : tie.Need-slice-write-state-9 Inv-loop μ-loop
+slice-write-state-9 c =
+    let args = c .before .before .before .before .args in
+    let pre = c .before .before .before .before .pre in
+    let loop = c .before .loop in
+    laws.room-40 (args .st) (args .state .now) pre (loop .state) (loop .inv .1)
+
+slice-write-state-10 : tie.Need-slice-write-state-10 Inv-loop μ-loop
+slice-write-state-10 c =
+    let args = c .before .before .before .before .args in
+    let pre = c .before .before .before .before .pre in
+    let loop = c .before .loop in
+    laws.room-41 (args .st) (args .state .now) pre (loop .state) (loop .inv .1)
 
 same-length : tie.Need-same-length Inv-loop μ-loop
-same-length c = search needs
+same-length c =
+    let args = c .before .before .before .before .args in
+    let pre = c .before .before .before .before .pre in
+    let loop = c .before .loop in
+    laws.five-long (args .st) (args .state .now) pre (loop .state) (loop .inv .1)
 
 returns : tie.Need-returns Inv-loop μ-loop
-unfolding numbersOf
-returns c = c .before .loop .inv .2
-    ∙ ap (λ (i : ℕ). listFrom (stateNumber (c .before .before .before .args .st)) 0 i ++ drop i (c .before .before .before .args .state .now))
-    (let e : c .before .loop .i ≡ 42 = omega (arith, c .loop-test .left) in e)
+returns c =
+    let args = c .before .before .before .before .args in
+    let pre = c .before .before .before .before .pre in
+    let loop = c .before .loop in
+    let full : loop .j ≡ rows = omega (arith, c .loop-test .left) in
+    laws.five-put (args .st) (args .state .now) pre (loop .state)
+    (subst (λ (j : ℕ). laws.Put (args .st) (3 + 2 * j) (laws.three (args .st) (args .state .now) pre) (loop .state)) full (loop .inv .2))
 
 pub put-spec : {M : Type 1} → statement M
 put-spec =
@@ -60,12 +153,29 @@ put-spec =
     (tie.spec
     Inv-loop
     μ-loop
-    loop-holds
-    number-requires
-    mul-state
     slice-write-state
-    add-i
+    slice-write-state-2
+    slice-write-state-3
+    loop-holds
+    mul-state
+    array-read-state
+    mul-state-2
+    add-state
+    mul-state-3
+    slice-write-state-4
+    mul-state-4
+    array-read-state-2
+    mul-state-5
+    add-state-2
+    mul-state-6
+    slice-write-state-5
+    add-j
     loop-less
     loop-again
+    slice-write-state-6
+    slice-write-state-7
+    slice-write-state-8
+    slice-write-state-9
+    slice-write-state-10
     same-length
     returns)

@@ -1,12 +1,12 @@
--- The fours, then one sample more each turn: the row so far is the samples written, then the old row behind them.
-use Prim.Native.Nat.{ℕ, _-_, _≤_}
-use mathlib.Core.Path.{_≡_, refl, ap, _∙_}
-use mathlib.Core.List.{List, _++_}
+-- One sample more each turn: the row so far is the samples written, then the old row behind them.
+use Prim.Native.Nat.{_-_, _≤_}
+use mathlib.Core.Path.{_≡_, refl}
+use mathlib.Core.List.{_++_}
 use native.Mathlib.Omega.{arith}
 use borrow.Author.Needs.{needs}
 use lib.ListN.{length, drop}
 use Rattle.copies.specs.Row.{samples}
-use Rattle.copies.proofs.RowLaws.{row-again, row-behind, row-more, row-all}
+use Rattle.copies.proofs.RowLaws.{row-none, row-more, row-all}
 use Rattle.copies.proofs.write.Statement.{statement}
 use Rattle.copies.proofs.write.Tie as tie
 
@@ -16,17 +16,8 @@ Inv-loop px count row₀ j₀ row j = (j ≤ count) × (row ≡ samples j px ++ 
 abbrev μ-loop : tie.MeasureT-loop
 μ-loop px count row₀ j₀ row j = count - j
 
-write-fours-requires : tie.Need-write-fours-requires Inv-loop μ-loop
-write-fours-requires c κs = search needs
-
 loop-holds : tie.Need-loop-holds Inv-loop μ-loop
-loop-holds c = (
-  c .before .before .write-fours .ensures .0,
-  row-again (c .before .before .write-fours .result)
-      (c .before .before .before .before .before .before .args .px .now) (c .before .before .before .before .before .before .args .row .now) _
-      (c .before .before .write-fours .ensures .1),
-  search needs,
-)
+loop-holds c = (search needs, row-none _ _, search needs)
 
 mul-sample : tie.Need-mul-sample Inv-loop μ-loop
 mul-sample c = search needs
@@ -48,7 +39,7 @@ loop-less c = search needs
 
 loop-again : tie.Need-loop-again Inv-loop μ-loop
 loop-again c =
-    let args = c .before .before .before .before .before .before .before .before .before .args in (
+    let args = c .before .before .before .before .before .args in (
       search needs,
       row-more (c .before .before .loop .j) _ _ (c .sample .result) (args .px .now) _ (c .before .before .loop .row) (omega arith) refl refl
           (c .before .before .loop .inv .1) (c .sample .ensures),
@@ -60,11 +51,8 @@ same-length c = search needs
 
 returns : tie.Need-returns Inv-loop μ-loop
 returns c =
-    let args = c .before .before .before .before .before .before .before .before .args in
+    let args = c .before .before .before .before .args in
     row-all (c .before .loop .j) (args .count) (args .px .now) _ (c .before .loop .row) (c .before .loop .inv .0) (omega arith) (c .before .loop .inv .1)
-    ∙ ap (λ (l : List ℕ). samples (args .count) (args .px .now) ++ l)
-    (row-behind (c .before .before .before .before .write-fours .result) (args .px .now) (args .row .now) _
-    (c .before .before .before .before .write-fours .ensures .1) (args .count) (c .before .before .before .before .write-fours .ensures .0))
 
 pub write-spec : {M : Type 1} → statement M
 write-spec =
@@ -72,7 +60,6 @@ write-spec =
     (tie.spec
     Inv-loop
     μ-loop
-    write-fours-requires
     loop-holds
     mul-sample
     sample-requires

@@ -1,84 +1,75 @@
--- The two tests together say that the bytes end before the field does; past them the field's bytes are read.
+-- A whole number's form is known by its width; any other field is read by its form.
 use mathlib.Core.Path.{sym, ap, _∙_}
-use native.Mathlib.Omega.{arith}
-use borrow.Author.Needs.{needs}
-use lib.ListN.{take, drop}
-use Rattle.fields.proofs.Laws as laws
-use Rattle.fields.specs.Field.{fromWritten}
-use Rattle.decimal.specs.Scan.{written}
-use lib.ListN.{take, drop}
--- The two tests together say that the bytes end before the field does; past them the field's bytes are read.
 use Rattle.fields.specs.Field.{fieldAt}
+use borrow.Author.Needs.{needs}
 use Rattle.fields.proofs.field_at.Statement.{statement}
 use Rattle.fields.proofs.field_at.Tie as tie
 
-width-requires : tie.Need-width-requires
-width-requires c κs = search needs
+enum-told : tie.Need-enum-told
+enum-told c = search needs
 
-refused-requires : tie.Need-refused-requires
-refused-requires c κs = search needs
+whole-at-requires : tie.Need-whole-at-requires
+whole-at-requires c κs = search needs
+
+enum-told-2 : tie.Need-enum-told-2
+enum-told-2 c = search needs
+
+whole-at-requires-2 : tie.Need-whole-at-requires-2
+whole-at-requires-2 c κs = search needs
+
+enum-told-3 : tie.Need-enum-told-3
+enum-told-3 c = search needs
+
+whole-at-requires-3 : tie.Need-whole-at-requires-3
+whole-at-requires-3 c κs = search needs
+
+enum-told-4 : tie.Need-enum-told-4
+enum-told-4 c = search needs
+
+whole-at-requires-4 : tie.Need-whole-at-requires-4
+whole-at-requires-4 c κs = search needs
+
+any-at-requires : tie.Need-any-at-requires
+any-at-requires c κs = search needs
 
 returns : tie.Need-returns
-unfolding fieldAt
-returns c = c .refused .ensures
-    ∙ sym (laws.short (c .before .before .before .before .args .bytes .now) (c .before .before .before .before .args .at)
-    (c .before .before .before .before .args .form) (omega (arith, c .before .before .width .ensures)))
-
-sub-if2 : tie.Need-sub-if2
-sub-if2 c = search needs
-
-refused-requires-2 : tie.Need-refused-requires-2
-refused-requires-2 c κs = search needs
+returns c =
+    let args = c .before .before .before .before .args in
+    c .whole-at .ensures ∙ ap (fieldAt (args .bytes .now) (args .at)) (sym (c .before .enum-told .given .1))
 
 returns-2 : tie.Need-returns-2
-unfolding fieldAt
-returns-2 c = c .refused2 .ensures
-    ∙ sym (laws.short (c .before .before .before .before .before .args .bytes .now) (c .before .before .before .before .before .args .at)
-    (c .before .before .before .before .before .args .form) (omega (arith, c .before .before .before .width .ensures)))
-
-add-end : tie.Need-add-end
-add-end c = search needs
-
-sub-read : tie.Need-sub-read
-sub-read c = search needs
-
-part-read-start : tie.Need-part-read-start
-part-read-start c = search needs
-
-part-read-end : tie.Need-part-read-end
-part-read-end c = search needs
-
-read-requires : tie.Need-read-requires
-read-requires c κs = search needs
-
-from-written-requires : tie.Need-from-written-requires
-from-written-requires c κs = search needs
+returns-2 c =
+    let args = c .before .before .before .before .args in
+    c .whole-at2 .ensures ∙ ap (fieldAt (args .bytes .now) (args .at)) (sym (c .before .enum-told2 .given .1))
 
 returns-3 : tie.Need-returns-3
-unfolding fieldAt
 returns-3 c =
-    let b = c .before .before .before .before .before .before .before .args .bytes .now in
-    let q = ap (λ n. written (c .before .before .before .before .before .before .before .args .form)
-    (take n (drop (c .before .before .before .before .before .before .before .args .at) b)))
-    (laws.extent (c .before .before .before .before .before .before .before .args .at) (c .before .before .before .before .before .width .ensures)) in
-    c .from-written .ensures ∙ ap (fromWritten (c .before .before .before .before .before .before .before .args .at)) (c .before .read .ensures .1 ∙ q)
-    ∙ sym (laws.whole b (c .before .before .before .before .before .before .before .args .at)
-    (c .before .before .before .before .before .before .before .args .form) (omega (arith, c .before .before .before .before .before .width .ensures)))
+    let args = c .before .before .before .before .args in
+    c .whole-at3 .ensures ∙ ap (fieldAt (args .bytes .now) (args .at)) (sym (c .before .enum-told3 .given .1))
+
+returns-4 : tie.Need-returns-4
+returns-4 c =
+    let args = c .before .before .before .before .args in
+    c .whole-at4 .ensures ∙ ap (fieldAt (args .bytes .now) (args .at)) (sym (c .before .enum-told4 .given .1))
+
+returns-5 : tie.Need-returns-5
+returns-5 c = search needs
 
 pub field-at-spec : {M : Type 1} → statement M
 field-at-spec =
     tie.close
     (tie.spec
-    width-requires
-    refused-requires
+    enum-told
+    whole-at-requires
+    enum-told-2
+    whole-at-requires-2
+    enum-told-3
+    whole-at-requires-3
+    enum-told-4
+    whole-at-requires-4
+    any-at-requires
     returns
-    sub-if2
-    refused-requires-2
     returns-2
-    add-end
-    sub-read
-    part-read-start
-    part-read-end
-    read-requires
-    from-written-requires
-    returns-3)
+    returns-3
+    returns-4
+    returns-5)
