@@ -42,7 +42,7 @@ fn of_leader(r: &[u8]) -> Found
 }
 
 // An image's descriptor.
-fn of_image(r: &[u8]) -> Found
+pub fn of_image(r: &[u8]) -> Found
     ensures { λ x. ⌜ x ≡ firstOf image (now (r .entry)) ⌝ }
 {
     let x = image::descriptor(r);

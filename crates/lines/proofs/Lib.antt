@@ -1,3 +1,5 @@
 pub mod LinedLaws
 pub mod ViewLaws
 pub mod InsideLaws
+pub mod FirstLaws
+pub mod FoundLaws

@@ -22,13 +22,8 @@ use Rattle.verdicts.specs.declared.Verdict.{Verdict}
 use Rattle.verdicts.specs.declared.Verdict.the-variants.{Fine, Fault}
 use Rattle.headers.specs.Header.{headerOf}
 use Rattle.turns.specs.Turn.{Near}
-use Rattle.walk.specs.Walk.{walkOf, beginOf}
-use Rattle.walk.specs.declared.Begun.{Begun}
-use Rattle.walk.specs.declared.Walked.{Walked}
 use Rattle.turns.specs.declared.Stop.{Stop}
 use Rattle.turns.specs.declared.Stop.the-variants.{Wait as Wait′, Pause, Complete, Refused as Refused′}
-use Rattle.turns.proofs.Stop.{the-type}
-use Rattle.walk.proofs.BegunLaws.{begun-walks}
 use Rattle.turns.proofs.FaultLaws.{header-near, body-near}
 use Rattle.lines.specs.View.{leftOf, dataOf, pixelsFrom, shownOf, onVerdict, foundIn, recordAt, lineAt, lineOf, behindFirst, firstOf, viewOf}
 use Rattle.lines.specs.View.{shownBytes, pixelsOf}
@@ -78,33 +73,6 @@ module _ (g : ℕ) (p : Plan) (k : ℕ) (bs : List ℕ) where
   pub line-out : withinOf 1 k (p .n) ≡ false → lineOf g p k bs ≡ Refused (bareRefusal 13)
   unfolding lineOf
   line-out e = simp e
-
--- the first record's stop, by what it is not
-not-stopped : (x : Stop) (v : View) → OneOf (1 ∷ 2 ∷ 3 ∷ []) (tagOf the-type x) → OneOf (0 ∷ 1 ∷ 2 ∷ []) (tagOf the-type x) → behindFirst x v ≡ v
-not-stopped (Wait′ n) v a b = absurd (⊎-elim (λ e. omega arith) (⊎-elim (λ e. omega arith) (λ e. omega arith)) a)
-not-stopped Pause v a b = refl
-not-stopped Complete v a b = refl
-not-stopped (Refused′ r) v a b = absurd (⊎-elim (λ e. omega arith) (⊎-elim (λ e. omega arith) (λ e. omega arith)) b)
-
--- the first record's walk, as the code has it, and the view by its stop
-module _ (bs : List ℕ) (b : Begun) (w : Walked) (begins : b ≡ beginOf image) (walks : w ≡ walkOf 1 (b .state) bs false) where
-  pub first-is : w ≡ firstOf bs
-  first-is = begun-walks image 1 bs false refl b w begins walks
-
-  module _ (g k : ℕ) where
-    view-is : viewOf g bs k ≡ behindFirst (w .stop) (lineOf g (w .state .plan) k bs)
-    unfolding viewOf
-    view-is = ap (λ (x : Walked). behindFirst (x .stop) (lineOf g (x .state .plan) k bs)) (sym first-is)
-
-    pub view-wait : (n : ℕ) → w .stop ≡ Wait′ n → Wait n ≡ viewOf g bs k
-    view-wait n e = sym (view-is ∙ ap (λ (x : Stop). behindFirst x (lineOf g (w .state .plan) k bs)) e)
-
-    pub view-refused : (r : Refusal) → w .stop ≡ Refused′ r → Refused r ≡ viewOf g bs k
-    view-refused r e = sym (view-is ∙ ap (λ (x : Stop). behindFirst x (lineOf g (w .state .plan) k bs)) e)
-
-    pub view-behind : OneOf (1 ∷ 2 ∷ 3 ∷ []) (tagOf the-type (w .stop)) → OneOf (0 ∷ 1 ∷ 2 ∷ []) (tagOf the-type (w .stop)) → (v : View)
-        → v ≡ lineOf g (w .state .plan) k bs → v ≡ viewOf g bs k
-    view-behind a c v e = e ∙ sym (view-is ∙ not-stopped (w .stop) (lineOf g (w .state .plan) k bs) a c)
 
 -- ---- and back: a line that is shown
 

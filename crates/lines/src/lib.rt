@@ -3,14 +3,13 @@
 // from the plan.
 use plan::Due;
 use plan::Plan;
-use turns::Stop;
 use verdicts::Verdict;
-use walk::State;
 use words::Refusal;
 ghost use mathlib.Core.Path.{_≡_};
 ghost use Prim.Native.Nat.{_+_, _*_, _≤_};
 ghost use lib.ListN.{length};
-ghost use Rattle.plan.specs.Plan.{image, group, Placed};
+ghost use Rattle.plan.specs.Plan.{image, group, firstCodes, dueOf, Placed};
+ghost use Rattle.headers.specs.Header.{headerOf};
 ghost use Rattle.lines.specs.View.{pixelsFrom, shownOf, foundIn, lineAt, lineOf, viewOf, pixelsOf, Lined};
 
 // What a line view answers: the place of its first data pixel in the file, the data count and the
@@ -21,16 +20,25 @@ pub enum View {
     Refused(Refusal),
 }
 
-// What is found in line k's record, which is due there: header (3, 4, 5), then body (10).
+// What is found in line k's record, which is due there and has room for a line's numbers: header (3, 4,
+// 5), then body (10). Where nothing is wrong, bytes that are there are not asked for one by one.
 fn found(p: Plan, k: u64, d: Due, r: &[u8]) -> Verdict
+    requires { ⌜ (d .run ≡ 1) × (32 ≤ length (now r)) ⌝ }
     ensures { λ v. ⌜ v ≡ foundIn p k d (now (r .entry)) ⌝ }
 {
     let codes = d.codes;
+    let fine = words::both(
+        headers::header_there(d.ordinal, codes, d.length, r),
+        image::line_there(p.w, k, r),
+    );
+    if fine {
+        return Verdict::Fine;
+    }
     let h = headers::header(d.ordinal, codes, d.length, r);
     let Verdict::Fine = h else {
         return h;
     };
-    bodies::judge(plan::IMAGE, d.run, p, k, r).verdict
+    image::line(p.w, k, r)
 }
 
 // Pixels start L - s - d bytes into a line's record, which may be more than the 192 of its front.
@@ -44,17 +52,20 @@ fn pixels_from(p: Plan) -> u64
 // What is shown of a line's record that starts there: the data pixels skip the left fill.
 fn shown(p: Plan, start: u64, r: &[u8]) -> View
     requires { ⌜ (start ≤ 20000000000000) × (p .s + p .d ≤ p .l) × (p .l ≤ 99999999) ⌝ }
+    requires { ⌜ 32 ≤ length (now r) ⌝ }
     ensures { λ v. ⌜ v ≡ shownOf group p start (now (r .entry)) ⌝ }
 {
-    let f = image::fills_of(r);
-    let from = start + pixels_from(p) + plan::GROUP * f.left;
-    View::Shown(from, f.data, f.left)
+    let left = words::four_there(r, words::place(21));
+    let data = words::four_there(r, words::place(25));
+    let from = start + pixels_from(p) + plan::GROUP * left;
+    View::Shown(from, data, left)
 }
 
 // Line k, whose record is due there: wait for the bytes still missing to its record's end, then judge
 // that record alone.
 fn line_at(p: Plan, k: u64, d: Due, bytes: &[u8]) -> View
     requires { ⌜ Lined group p × Placed d × (p .s + p .d ≤ p .l) ⌝ }
+    requires { ⌜ (d .run ≡ 1) × (32 ≤ d .length) ⌝ }
     ensures { λ v. ⌜ v ≡ lineAt group p k d (now (bytes .entry)) ⌝ }
 {
     let end = d.start + d.length;
@@ -76,34 +87,80 @@ fn line_at(p: Plan, k: u64, d: Due, bytes: &[u8]) -> View
     shown(p, d.start, r)
 }
 
+// Line k's record as it is due: all lines are of one run, so it is not looked for among the runs.
+fn line_due(p: Plan, k: u64) -> Due
+    requires { ⌜ Lined group p × (1 ≤ k) × (k ≤ p .n) ⌝ }
+    ensures { λ d. ⌜ d ≡ dueOf image p k ⌝ }
+    ensures { λ d. ⌜ Placed d × (d .run ≡ 1) × (32 ≤ d .length) ⌝ }
+{
+    let codes = plan::line_codes(0);
+    let before = (k - 1) * p.l;
+    Due {
+        ordinal: k + 1,
+        run: 1,
+        codes,
+        length: p.l,
+        start: plan::first_length(plan::IMAGE) + before,
+    }
+}
+
 // Line k of an image with that plan, or 13.
 fn line(p: Plan, k: u64, bytes: &[u8]) -> View
     requires { ⌜ Lined group p ⌝ }
     ensures { λ v. ⌜ v ≡ lineOf group p k (now (bytes .entry)) ⌝ }
 {
     if words::within(1, k, p.n) {
-        return line_at(p, k, plan::due_of(plan::IMAGE, p, k), bytes);
+        return line_at(p, k, line_due(p, k), bytes);
     }
     View::Refused(words::bare(13))
 }
 
+// The header of the first record, on bytes that have come.
+fn first_header(b: &[u8]) -> Verdict
+    requires { ⌜ 12 ≤ length (now b) ⌝ }
+    ensures { λ v. ⌜ v ≡ headerOf 1 (firstCodes image) 720 (now (b .entry)) ⌝ }
+{
+    let codes = plan::first_codes(plan::IMAGE);
+    if headers::header_there(1, codes, 720, b) {
+        return Verdict::Fine;
+    }
+    headers::header(1, codes, 720, b)
+}
+
+// A refusal of the first record, which starts at 0.
+fn refused(number: u64, place: u64) -> View
+    ensures { λ v. ⌜ v ≡ View.Refused (record { number = number; «record» = 1; place = place }) ⌝ }
+{
+    View::Refused(Refusal {
+        number,
+        record: 1,
+        place,
+    })
+}
+
 // The line view, asked of an image prefix held from byte 0: the first record as in the walk, open;
-// then line k. Asking for the last line costs no more than asking for the first.
+// then line k. Asking for the last line costs no more than asking for the first. The walk itself is
+// not called: its state would be moved about for one record (docs/SPEED.md).
 pub fn line_view(bytes: &[u8], k: u64) -> View
     ensures { λ v. ⌜ v ≡ viewOf group (now (bytes .entry)) k ⌝ }
 {
-    let begun = State::none().begin(plan::IMAGE);
-    let fresh = begun.state;
-    let first = fresh.step(bytes, false);
-    let stop = first.stop;
-    if let Stop::Wait(n) = stop {
-        return View::Wait(n);
+    let len = bytes.len() as u64;
+    if len < 12 {
+        return View::Wait(12 - len);
     }
-    if let Stop::Refused(r) = stop {
-        return View::Refused(r);
+    let h = first_header(bytes);
+    if let Verdict::Fault(n, at) = h {
+        return refused(n, at);
     }
-    let st = first.state;
-    let p = st.plan;
+    if len < 720 {
+        return View::Wait(720 - len);
+    }
+    let x = bodies::of_image(&bytes[..720]);
+    let verdict = x.verdict;
+    if let Verdict::Fault(n, at) = verdict {
+        return refused(n, at);
+    }
+    let p = x.plan;
     line(p, k, bytes)
 }
 

@@ -178,7 +178,7 @@ fn other_codes(i: u64) -> Codes
 }
 
 // The code bytes of a first record.
-fn first_codes(kind: u64) -> Codes
+pub fn first_codes(kind: u64) -> Codes
     ensures { λ r. ⌜ r ≡ firstCodes kind ⌝ }
 {
     if kind == 0 {

@@ -42,7 +42,7 @@ add-t18 c = omega (
   arith,
   subst Near (c .before .before .v .given .1)
       (subst Near (sym (c .before .before .before .before .found .ensures)) (laws.found-near _ _ _ _)),
-  (c .before .before .before .before .before .before .before .before .before .pre) .1 .start,
+  c .before .before .before .before .before .before .before .before .before .pre .0 .1 .start,
 )
 
 returns-2 : tie.Need-returns-2

@@ -1,16 +1,28 @@
 -- The numbers of the definition, each read where it stands.
 use Prim.Native.Nat.{ℕ, _+_, _*_}
-use mathlib.Core.Path.{ap₂}
+use mathlib.Core.Path.{_≡_, ap, ap₂, _∙_}
+use native.Mathlib.Omega.{arith}
+use Rattle.words.specs.Words.{fourAt, placeOf}
 use Rattle.plan.specs.Plan.{group}
-use Rattle.image.specs.declared.Fills.{Fills}
-use Rattle.lines.specs.View.{shownOf}
+use Rattle.lines.specs.View.{leftOf, dataOf, pixelsFrom, shownOf}
 use Rattle.lines.specs.declared.View.the-variants.{Shown}
 use borrow.Author.Needs.{needs}
 use Rattle.lines.proofs.shown.Statement.{statement}
 use Rattle.lines.proofs.shown.Tie as tie
 
-fills-of-requires : tie.Need-fills-of-requires
-fills-of-requires c κs = search needs
+place-requires : tie.Need-place-requires
+place-requires c κs = search needs
+
+four-there-requires : tie.Need-four-there-requires
+unfolding placeOf
+four-there-requires c κs = omega (arith, c .place .ensures, c .before .before .pre .1)
+
+place-requires-2 : tie.Need-place-requires-2
+place-requires-2 c κs = search needs
+
+four-there-requires-2 : tie.Need-four-there-requires-2
+unfolding placeOf
+four-there-requires-2 c κs = omega (arith, c .place2 .ensures, c .before .before .before .before .pre .1)
 
 pixels-from-requires : tie.Need-pixels-from-requires
 pixels-from-requires c κs = search needs
@@ -26,10 +38,27 @@ add-from-2 c = search needs
 
 returns : tie.Need-returns
 unfolding shownOf
-returns c = ap₂ (λ (f : Fills) (n : ℕ). Shown (c .before .before .before .before .args .start + n + group * f .left) (f .«data») (f .left))
-    (c .before .before .fills-of .ensures .0) (c .before .pixels-from .ensures .0)
+returns c =
+    let args = c .before .before .before .before .before .before .args in
+    let r = args .r .now in
+    let left = c .before .before .before .four-there in
+    let count = c .before .four-there2 in
+    let from = c .pixels-from in
+    let l : left .result ≡ leftOf r = left .ensures .0 ∙ ap (λ (i : ℕ). fourAt r i) (c .before .before .before .before .place .ensures) in
+    let d : count .result ≡ dataOf r = count .ensures .0 ∙ ap (λ (i : ℕ). fourAt r i) (c .before .before .place2 .ensures) in
+    ap₂ (λ (n a : ℕ). Shown (args .start + n + group * a) (count .result) a) (from .ensures .0) l
+    ∙ ap (λ (b : ℕ). Shown (args .start + pixelsFrom (args .p) + group * leftOf r) b (leftOf r)) d
 
 pub shown-spec : {M : Type 1} → statement M
 shown-spec =
     tie.close
-    (tie.spec fills-of-requires pixels-from-requires add-from mul-from add-from-2 returns)
+    (tie.spec
+    place-requires
+    four-there-requires
+    place-requires-2
+    four-there-requires-2
+    pixels-from-requires
+    add-from
+    mul-from
+    add-from-2
+    returns)
