@@ -1,96 +1,46 @@
-/* The benchmark (docs/SPEED.md): times the library against plain C of the same job and prints the
- * table. bench [--quick] [--emulated]; first it sees that both give the same answers. */
+/* The benchmark (docs/SPEED.md): times the library against plain C of the same job by four compilers, and
+ * against a limit that checks nothing, and prints the tables. First it sees that all give the same answers.
+ *   bench [--quick] [--emulated] [--counts FILE]   FILE: what `bench --count` gave under callgrind
+ *   bench --count JOB READER TIMES                 does a job so often and prints nothing */
 #include <stdio.h>
 #include <stdlib.h>
 #include <string.h>
 #include <time.h>
 
-#include "readers.h"
-#include "scene.h"
+#include "jobs.h"
 
 const struct reader OURS = {sbg_begin, sbg_walk, sbg_field, sbg_line, sbg_row};
-const struct reader PLAIN = {plain_begin, plain_walk, plain_field, plain_line, plain_row};
 
-#define PIXELS 6000
-#define RANDOM 4096
+#define READERS 5 /* ours, then the opponents */
+#define CONTENDERS (READERS + 1)
+#define LIMIT READERS
 #define MOST_ROUNDS 101
+
+static const struct reader *const READER[READERS] = {&OURS, &gcc_O2_reader, &gcc_O3_reader, &clang_O2_reader,
+                                                     &clang_O3_reader};
+static const char *const NAME[READERS] = {"ours", "gcc -O2", "gcc -O3", "clang -O2", "clang -O3"};
+
+/* The jobs of the first table; goal: the least ratio, 0 where none is judged. */
+static const struct {
+  const char *name;
+  void (*run)(const struct job *, long), (*limit)(const struct job *, long);
+  double goal;
+} JOBS[] = {
+    {"row copy, 6,000 pixels, 3,000 lines in order, a row", run_rows, copy_rows, 0.95},
+    {"row copy, 6,000 pixels, the same line again, a row", run_row, copy_row, 0.9},
+    {"closed walk, 3,000 lines of 12,192 bytes, a line", run_walk, touch_lines, 0.9},
+    {"line view, lines at random, a view", run_random, touch_random, 0.5},
+    {"line view, line 1", run_line, touch_line, 0.5},
+    {"thirteen listed fields, a field", run_fields, touch_fields, 0.5},
+};
+#define JOB_COUNT (sizeof JOBS / sizeof *JOBS)
 
 static int rounds = 101, emulated;
 static double least = 0.003; /* seconds that a timed piece takes at least */
-static volatile uint64_t sink;
-static uint16_t row[PIXELS];
-static uint64_t numbers[RANDOM]; /* line numbers at random */
+static double counts[JOB_COUNT][READERS]; /* instructions, 0 where they were not counted */
 
-/* ---- jobs: do it so many times ---- */
-
-/* What is done, by whom, on what. */
-struct job {
-  void (*run)(const struct job *, long times);
-  const struct reader *reader;
-  const struct image *image;
-  const struct leader *leader;
-  uint64_t line;  /* the one line asked for */
-  size_t in_one;  /* how many units of what is reported are in one turn of run */
-};
-
-/* A closed walk from a fresh state over the whole file. */
-static void run_walk(const struct job *j, long times) {
-  uint64_t state[SBG_STATE], answer[SBG_ANSWER];
-  for (; times > 0; times--) {
-    j->reader->begin(SBG_IMAGE, state, SBG_STATE, answer, SBG_ANSWER);
-    j->reader->walk(state, SBG_STATE, j->image->bytes, j->image->len, 1, j->image->n + 2, answer,
-                    SBG_ANSWER);
-    sink += answer[SBG_TAG] + answer[SBG_COUNT];
-  }
-}
-
-/* The rows of a file in order. */
-static void run_rows(const struct job *j, long times) {
-  uint64_t answer[SBG_ANSWER], line = 0;
-  for (; times > 0; times--) {
-    line = line % j->image->n + 1;
-    j->reader->row(j->image->bytes, j->image->len, line, row, PIXELS, answer, SBG_ANSWER);
-    sink += answer[SBG_A] + row[line];
-  }
-}
-
-/* One row again and again. */
-static void run_row(const struct job *j, long times) {
-  uint64_t answer[SBG_ANSWER];
-  for (; times > 0; times--) {
-    j->reader->row(j->image->bytes, j->image->len, j->line, row, PIXELS, answer, SBG_ANSWER);
-    sink += answer[SBG_A] + row[0];
-  }
-}
-
-static void run_line(const struct job *j, long times) {
-  uint64_t answer[SBG_ANSWER];
-  for (; times > 0; times--) {
-    j->reader->line(j->image->bytes, j->image->len, j->line, answer, SBG_ANSWER);
-    sink += answer[SBG_A];
-  }
-}
-
-static void run_random(const struct job *j, long times) {
-  uint64_t answer[SBG_ANSWER];
-  for (long i = 0; i < times; i++) {
-    j->reader->line(j->image->bytes, j->image->len, numbers[i % RANDOM], answer, SBG_ANSWER);
-    sink += answer[SBG_A];
-  }
-}
-
-/* All thirteen listed fields. */
-static void run_fields(const struct job *j, long times) {
-  uint64_t answer[SBG_ANSWER];
-  int64_t value[SBG_VALUE];
-  for (; times > 0; times--) {
-    for (uint64_t number = 1; number <= 13; number++) {
-      size_t len;
-      const uint8_t *record = record_of(j->leader, number, &len);
-      j->reader->field(record, len, number, value, SBG_VALUE, answer, SBG_ANSWER);
-      sink += answer[SBG_TAG] + (uint64_t)value[0];
-    }
-  }
+static size_t units(void (*run)(const struct job *, long), const struct image *scene) {
+  return run == run_walk ? scene->n : run == run_fields ? 13 : 1;
 }
 
 /* ---- the clock ---- */
@@ -133,88 +83,92 @@ static struct spread spread_of(const double *x) {
   return s;
 }
 
-/* Nanoseconds a unit of two jobs, timed in turn, and the ratio (the other to the one) round by round. */
-struct result {
-  struct spread one, other, ratio;
-};
-
-static struct result measure(const struct job *one, const struct job *other) {
-  double a[MOST_ROUNDS], b[MOST_ROUNDS], q[MOST_ROUNDS];
-  long times = enough(one), others = enough(other);
-  for (int i = 0; i < rounds; i++) {
-    a[i] = timed(one, times) * 1e9 / (double)times / (double)one->in_one;
-    b[i] = timed(other, others) * 1e9 / (double)others / (double)other->in_one;
-    q[i] = b[i] / a[i];
-  }
-  struct result r = {spread_of(a), spread_of(b), spread_of(q)};
-  return r;
+/* The rounds of one to the rounds of another, as a ratio round by round. */
+static struct spread ratio_of(const double *one, const double *other) {
+  double q[MOST_ROUNDS];
+  for (int i = 0; i < rounds; i++) q[i] = other[i] / one[i];
+  return spread_of(q);
 }
 
-/* ---- the table ---- */
+/* Nanoseconds a unit of each contender, timed in turn, round by round. */
+static void measure(const struct job *jobs, int n, double ns[][MOST_ROUNDS]) {
+  long times[CONTENDERS];
+  for (int c = 0; c < n; c++) times[c] = enough(&jobs[c]);
+  for (int i = 0; i < rounds; i++)
+    for (int c = 0; c < n; c++)
+      ns[c][i] = timed(&jobs[c], times[c]) * 1e9 / (double)times[c] / (double)jobs[c].in_one;
+}
+
+/* ---- the tables ---- */
 
 static void print_times(struct spread s) {
   int digits = s.median < 100 ? 1 : 0;
   printf(" %.*f (%.*f to %.*f) |", digits, s.median, digits, s.min, digits, s.max);
 }
 
-/* A row: the goal is met where the median ratio is lo at least and hi at most; no goal: lo 0. */
-static void print_row(const char *what, struct result r, double lo, double hi) {
-  printf("| %s |", what);
-  print_times(r.one);
-  print_times(r.other);
-  printf(" %.2f (%.2f to %.2f) |", r.ratio.median, r.ratio.min, r.ratio.max);
+static void print_goal(double ratio, double lo, double hi) {
   if (lo == 0) {
     puts(" |");
-    fflush(stdout);
-    return;
+  } else {
+    if (hi > 100) printf(" %.2f or more: ", lo);
+    else printf(" %.1f to %.1f: ", lo, hi);
+    puts(emulated ? "not judged |" : ratio >= lo && ratio <= hi ? "met |" : "NOT MET |");
   }
-  if (hi > 100) printf(" %.1f or more: ", lo);
-  else printf(" %.1f to %.1f: ", lo, hi);
-  puts(emulated ? "not judged |" : r.ratio.median >= lo && r.ratio.median <= hi ? "met |" : "NOT MET |");
   fflush(stdout);
 }
 
-/* Ours against plain C of the same job. */
-static void compare(const char *what, struct job j, double goal) {
-  struct job plain = j;
-  j.reader = &OURS;
-  plain.reader = &PLAIN;
-  print_row(what, measure(&j, &plain), goal, 1e9);
+/* The opponent with the least median. */
+static int strongest(double ns[][MOST_ROUNDS]) {
+  int best = 1;
+  for (int c = 2; c < READERS; c++)
+    if (spread_of(ns[c]).median < spread_of(ns[best]).median) best = c;
+  return best;
 }
 
-static void print_head(const char *ours, const char *other) {
-  printf("\n| job | %s | %s | ratio | goal |\n|---|---|---|---|---|\n", ours, other);
+/* A job by ours and all opponents, and by the limit where there is one; which: its counts, or -1. */
+static void compare(const char *what, struct job j, void (*limit)(const struct job *, long), double goal, int which) {
+  static double ns[CONTENDERS][MOST_ROUNDS];
+  struct job jobs[CONTENDERS];
+  for (int c = 0; c < READERS; c++) {
+    jobs[c] = j;
+    jobs[c].reader = READER[c];
+  }
+  jobs[LIMIT] = j;
+  jobs[LIMIT].run = limit;
+  measure(jobs, limit == NULL ? READERS : CONTENDERS, ns);
+  int best = strongest(ns);
+  struct spread ratio = ratio_of(ns[0], ns[best]);
+  printf("| %s |", what);
+  print_times(spread_of(ns[0]));
+  print_times(spread_of(ns[best]));
+  printf(" %s | %.2f (%.2f to %.2f) |", NAME[best], ratio.median, ratio.min, ratio.max);
+  if (limit != NULL) printf(" %.1f (%.2f) |", spread_of(ns[LIMIT]).median, ratio_of(ns[0], ns[LIMIT]).median);
+  if (which >= 0 && counts[which][0] > 0) printf(" %.0f : %.0f |", counts[which][0], counts[which][best]);
+  else if (which >= 0) printf(" |");
+  print_goal(ratio.median, goal, 1e9);
 }
-
-/* ---- what is measured ---- */
 
 static void jobs(const struct image *scene, const struct leader *leader) {
-  struct job j = {run_rows, NULL, scene, leader, 1, 1};
-  print_head("ours, ns", "plain C, ns");
-  compare("row copy, 6,000 pixels, 3,000 lines in order, a row", j, 0.8);
-  j.run = run_row;
-  compare("row copy, 6,000 pixels, the same line again, a row", j, 0.8);
-  j.run = run_walk;
-  j.in_one = scene->n;
-  compare("closed walk, 3,000 lines of 12,192 bytes, a line", j, 0.8);
-  j.run = run_fields;
-  j.in_one = 13;
-  compare("thirteen listed fields, a field", j, 0.5);
-  j.in_one = 1;
-  j.run = run_random;
-  compare("line view, lines at random, a view", j, 0);
-  j.run = run_line;
-  compare("line view, line 1", j, 0);
-  j.line = scene->n;
-  compare("line view, line 3,000", j, 0);
+  puts("\n| job | ours, ns | the strongest opponent, ns | it is | ratio | limit, ns (limit / ours) | instructions, ours : it | goal |\n"
+       "|---|---|---|---|---|---|---|---|");
+  for (size_t i = 0; i < JOB_COUNT; i++) {
+    struct job j = {JOBS[i].run, NULL, scene, leader, 1, units(JOBS[i].run, scene)};
+    compare(JOBS[i].name, j, JOBS[i].limit, JOBS[i].goal, (int)i);
+  }
 }
 
 /* Whether the cost of a line view depends on the line's number: ours against ours. */
 static void line_numbers(const struct image *scene) {
-  struct job last = {run_line, &OURS, scene, NULL, scene->n, 1}, first = last;
-  first.line = 1;
-  print_head("ours at line 3,000, ns", "ours at line 1, ns");
-  print_row("line view, a view", measure(&last, &first), 0.9, 1.1);
+  static double ns[2][MOST_ROUNDS];
+  struct job both[2] = {{run_line, &OURS, scene, NULL, scene->n, 1}, {run_line, &OURS, scene, NULL, 1, 1}};
+  measure(both, 2, ns);
+  struct spread ratio = ratio_of(ns[0], ns[1]);
+  puts("\n| job | ours at line 3,000, ns | ours at line 1, ns | ratio | goal |\n|---|---|---|---|---|");
+  printf("| line view, a view |");
+  print_times(spread_of(ns[0]));
+  print_times(spread_of(ns[1]));
+  printf(" %.2f (%.2f to %.2f) |", ratio.median, ratio.min, ratio.max);
+  print_goal(ratio.median, 0.9, 1.1);
 }
 
 /* The walk over images of that many lines and that many bytes a line. */
@@ -223,19 +177,46 @@ static void walk_of(size_t n, size_t l, size_t w) {
   struct job j = {run_walk, NULL, &x, NULL, 1, n};
   char what[100];
   snprintf(what, sizeof what, "walk, n = %zu, L = %zu, a line", n, l);
-  compare(what, j, 0);
+  compare(what, j, touch_lines, 0, -1);
   free(x.bytes);
 }
 
 static void growth(void) {
-  print_head("ours, ns", "plain C, ns");
+  puts("\n| job | ours, ns | the strongest opponent, ns | it is | ratio | limit, ns (limit / ours) | |\n|---|---|---|---|---|---|---|");
   walk_of(300, 198, 3);
   walk_of(3000, 198, 3);
   walk_of(30000, 198, 3);
-  walk_of(1000, 198, 3);
   walk_of(1000, 2192, 1000);
   walk_of(1000, 12192, PIXELS);
   walk_of(1000, 32768, 16288);
+}
+
+/* ---- instructions ---- */
+
+/* Callgrind counts what is done in here and nothing else. */
+__attribute__((noinline)) void counted(const struct job *j, long times) { j->run(j, times); }
+
+static int count(size_t which, size_t who, long times) {
+  if (which >= JOB_COUNT || who >= READERS) return 2;
+  struct image scene = make_image(300, FRONT_OF_LINE + 2 * PIXELS, PIXELS, 0, 0);
+  struct leader leader;
+  make_leader(&leader);
+  draw_lines(scene.n);
+  struct job j = {JOBS[which].run, READER[who], &scene, &leader, 1, 1};
+  counted(&j, times);
+  return 0;
+}
+
+/* The counts that the script took: a line each, job, reader, instructions of one turn. */
+static void read_counts(const char *path) {
+  FILE *f = fopen(path, "r");
+  size_t which, who;
+  double n;
+  if (f == NULL) return;
+  while (fscanf(f, "%zu %zu %lf", &which, &who, &n) == 3)
+    if (which < JOB_COUNT && who < READERS)
+      counts[which][who] = n / (double)(JOBS[which].run == run_walk ? 300 : JOBS[which].run == run_fields ? 13 : 1);
+  fclose(f);
 }
 
 int main(int argc, char **argv) {
@@ -245,22 +226,23 @@ int main(int argc, char **argv) {
       least = 0.002;
     } else if (strcmp(argv[i], "--emulated") == 0) {
       emulated = 1;
+    } else if (strcmp(argv[i], "--counts") == 0 && i + 1 < argc) {
+      read_counts(argv[++i]);
+    } else if (strcmp(argv[i], "--count") == 0 && i + 3 < argc) {
+      return count(strtoul(argv[i + 1], NULL, 10), strtoul(argv[i + 2], NULL, 10), strtol(argv[i + 3], NULL, 10));
     } else {
-      fprintf(stderr, "usage: bench [--quick] [--emulated]\n");
+      fprintf(stderr, "usage: bench [--quick] [--emulated] [--counts FILE] | bench --count JOB READER TIMES\n");
       return 2;
     }
   }
-  printf("Both gave the same answers to %llu questions. %d rounds, ours and the other in turn; each figure "
-         "is the median of the rounds, with the least and the most.\n",
-         (unsigned long long)agree(), rounds);
-  struct image scene = make_image(3000, 192 + 2 * PIXELS, PIXELS, 0, 0);
+  uint64_t asked = 0;
+  for (int c = 1; c < READERS; c++) asked += agree(READER[c]);
+  printf("Ours gave the same answers as each of the four to %llu questions in all. %d rounds, all contenders in turn; each "
+         "figure is the median of the rounds, with the least and the most.\n", (unsigned long long)asked, rounds);
+  struct image scene = make_image(3000, FRONT_OF_LINE + 2 * PIXELS, PIXELS, 0, 0);
   struct leader leader;
   make_leader(&leader);
-  uint64_t seed = 20;
-  for (int i = 0; i < RANDOM; i++) {
-    seed = seed * 6364136223846793005u + 1442695040888963407u;
-    numbers[i] = (seed >> 33) % scene.n + 1;
-  }
+  draw_lines(scene.n);
   jobs(&scene, &leader);
   line_numbers(&scene);
   free(scene.bytes);

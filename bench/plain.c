@@ -86,7 +86,7 @@ static const struct {
                 {1907, E20_13}, {1927, E20_13}, {1947, E20_13}, {1967, E20_13}, {1987, E20_13},
                 {61, I16},      {77, I16},      {93, F16_7}};
 
-uint64_t plain_field(const uint8_t *bytes, size_t len, uint64_t number, int64_t *value,
+static uint64_t plain_field(const uint8_t *bytes, size_t len, uint64_t number, int64_t *value,
                      size_t value_len, uint64_t *answer, size_t answer_len) {
   if (value_len < SBG_VALUE || answer_len < SBG_ANSWER) return 0;
   if (number < 1 || number > 13) return refuse(answer, 14);
@@ -246,7 +246,7 @@ static int good_state(const uint64_t *state, const struct plan *p) {
   return good_plan(p) && state[SBG_PASSED] <= p->n + 1;
 }
 
-uint64_t plain_begin(uint64_t kind, uint64_t *state, size_t state_len, uint64_t *answer,
+static uint64_t plain_begin(uint64_t kind, uint64_t *state, size_t state_len, uint64_t *answer,
                      size_t answer_len) {
   if (state_len < SBG_STATE || answer_len < SBG_ANSWER) return 0;
   memset(state, 0, SBG_STATE * sizeof *state);
@@ -255,7 +255,7 @@ uint64_t plain_begin(uint64_t kind, uint64_t *state, size_t state_len, uint64_t 
   return tell(answer, SBG_BEGUN, 0, 0, 0, 0);
 }
 
-uint64_t plain_walk(uint64_t *state, size_t state_len, const uint8_t *bytes, size_t len,
+static uint64_t plain_walk(uint64_t *state, size_t state_len, const uint8_t *bytes, size_t len,
                     uint64_t closed, uint64_t budget, uint64_t *answer, size_t answer_len) {
   if (state_len < SBG_STATE || answer_len < SBG_ANSWER) return 0;
   struct plan p = {state[SBG_N], state[SBG_L], state[SBG_W], state[SBG_D], state[SBG_S]};
@@ -307,7 +307,7 @@ static void find(const uint8_t *bytes, size_t len, uint64_t line, uint64_t *answ
   tell(answer, SBG_SHOWN, start + p.l - p.s - p.d + 2 * left, data, left, 0);
 }
 
-uint64_t plain_line(const uint8_t *bytes, size_t len, uint64_t line, uint64_t *answer,
+static uint64_t plain_line(const uint8_t *bytes, size_t len, uint64_t line, uint64_t *answer,
                     size_t answer_len) {
   if (answer_len < SBG_ANSWER) return 0;
   find(bytes, len, line, answer);
@@ -319,7 +319,7 @@ static void copy(const uint8_t *restrict px, size_t count, uint16_t *restrict ro
   for (size_t j = 0; j < count; j++) row[j] = (uint16_t)(px[2 * j] << 8 | px[2 * j + 1]);
 }
 
-uint64_t plain_row(const uint8_t *bytes, size_t len, uint64_t line, uint16_t *row, size_t row_len,
+static uint64_t plain_row(const uint8_t *bytes, size_t len, uint64_t line, uint16_t *row, size_t row_len,
                    uint64_t *answer, size_t answer_len) {
   if (answer_len < SBG_ANSWER) return 0;
   find(bytes, len, line, answer);
@@ -329,3 +329,5 @@ uint64_t plain_row(const uint8_t *bytes, size_t len, uint64_t line, uint16_t *ro
   copy(bytes + start, count, row);
   return tell(answer, SBG_COPIED, count, 0, 0, 0);
 }
+
+const struct reader PLAIN = {plain_begin, plain_walk, plain_field, plain_line, plain_row};

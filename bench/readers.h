@@ -1,8 +1,7 @@
-/* The two that are timed, behind one table of functions so that both are called alike. */
+/* Those that are timed, each behind one table of functions so that all are called alike. */
 #ifndef READERS_H
 #define READERS_H
 
-#include "plain.h"
 #include "seobangyu.h"
 
 struct reader {
@@ -14,10 +13,11 @@ struct reader {
   uint64_t (*row)(const uint8_t *, size_t, uint64_t, uint16_t *, size_t, uint64_t *, size_t);
 };
 
-extern const struct reader OURS, PLAIN;
+/* The library, and the plain C by each compiler. */
+extern const struct reader OURS, gcc_O2_reader, gcc_O3_reader, clang_O2_reader, clang_O3_reader;
 
-/* Asks both the same, on valid and on damaged input: how many questions were asked. Ends the program
- * with a message where the answers, states, values or rows differ. */
-uint64_t agree(void);
+/* Asks the library and the other the same, on valid and on damaged input: how many questions were
+ * asked. Ends the program with a message where the answers, states, values or rows differ. */
+uint64_t agree(const struct reader *other);
 
 #endif
