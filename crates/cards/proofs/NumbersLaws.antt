@@ -1,6 +1,6 @@
 -- The numbers of a card as they are written, three runs of pairs one behind the other, and the answer by what the check said.
 use Prim.Native.Nat.{ℕ, _+_, _*_, _≤_, _<_}
-use mathlib.Core.Path.{_≡_, refl, sym, ap, _∙_}
+use mathlib.Core.Path.{_≡_, sym, ap, _∙_}
 use mathlib.Core.List.{List, _++_, append-assoc}
 use native.Mathlib.Omega.{arith}
 use lib.ListN.{length, length-append}
@@ -8,16 +8,11 @@ use borrow.Author.Tests.{lt-ltb, le-ltb}
 use Rattle.words.specs.Answer.{bareRefusal}
 use Rattle.words.specs.declared.Refusal.{Refusal}
 use Rattle.writing.specs.Writing.{written}
-use Rattle.writing.proofs.WrittenLaws.{written-then}
+use Rattle.writing.proofs.WrittenLaws.{written-on}
 use Rattle.cards.specs.Check.{checkOf, pairsFrom, flatOf, manyOf, numbersBy, numbersOf, listBy, listOf}
 use Rattle.cards.specs.declared.Checked.{Checked}
 use Rattle.cards.specs.declared.Checked.the-variants.{Card, Refused}
 use Rattle.cards.proofs.LoopLaws.{pairs-long}
-
--- a text behind one that ends at a place
-behind : (out : List ℕ) (at to : ℕ) (t u : List ℕ) → at + length t ≡ to → to + length u ≤ length out → written (written out at t) to u ≡ written out at
-    (t ++ u)
-behind out at to t u e h = ap (λ (i : ℕ). written (written out at t) i u) (sym e) ∙ written-then out at t u (omega arith)
 
 pub three-runs : (n k : ℕ) (bs out one two three : List ℕ) → manyOf n k ≤ length out → one ≡ written out 0 (pairsFrom 2 1 8 bs)
     → two ≡ written one 4 (pairsFrom n 22 13 bs) → three ≡ written two (4 + 2 * n) (pairsFrom k (19 + 13 * n) 10 bs) → three ≡ written out 0 (flatOf n k bs)
@@ -30,9 +25,8 @@ three-runs n k bs out one two three h p q e =
     let lb : length b ≡ 2 * n = pairs-long n 22 13 bs in
     let lc : length c ≡ 2 * k = pairs-long k (19 + 13 * n) 10 bs in
     let lab : length (a ++ b) ≡ 4 + 2 * n = length-append a b ∙ (omega arith) in
-    e
-    ∙ ap (λ (l : List ℕ). written l (4 + 2 * n) c) (q ∙ ap (λ (l : List ℕ). written l 4 b) p ∙ behind out 0 4 a b (omega arith) (omega arith))
-    ∙ behind out 0 (4 + 2 * n) (a ++ b) c (omega arith) (omega arith)
+    let ab = written-on out 0 4 a b one two (omega arith) (omega arith) p q in
+    written-on out 0 (4 + 2 * n) (a ++ b) c two three (omega arith) (omega arith) ab e
     ∙ ap (written out 0) (append-assoc a b c)
 
 module _ (bs out : List ℕ) (x : Checked) (e : x ≡ checkOf bs) where
