@@ -1,5 +1,6 @@
-/* The benchmark (docs/SPEED.md): times the library against plain C of the same job and prints the
- * table. bench [--quick] [--emulated]; first it sees that both give the same answers. */
+/* The benchmark (docs/SPEED.md): times the library against plain C of the same job, and a card against the
+ * scene that it is of, and prints the tables. bench [--quick] [--emulated]; first it sees that both give the
+ * same answers. */
 #include <stdio.h>
 #include <stdlib.h>
 #include <string.h>
@@ -23,6 +24,14 @@ static uint64_t numbers[RANDOM]; /* line numbers at random */
 
 /* ---- jobs: do it so many times ---- */
 
+/* A card, and a list that is long enough for its numbers. */
+struct card {
+  uint8_t *bytes;
+  size_t len;
+  uint64_t *list;
+  size_t many;
+};
+
 /* What is done, by whom, on what. */
 struct job {
   void (*run)(const struct job *, long times);
@@ -31,6 +40,7 @@ struct job {
   const struct leader *leader;
   uint64_t line;  /* the one line asked for */
   size_t in_one;  /* how many units of what is reported are in one turn of run */
+  const struct card *card;
 };
 
 /* A closed walk from a fresh state over the whole file. */
@@ -90,6 +100,29 @@ static void run_fields(const struct job *j, long times) {
       j->reader->field(record, len, number, value, SBG_VALUE, answer, SBG_ANSWER);
       sink += answer[SBG_TAG] + (uint64_t)value[0];
     }
+  }
+}
+
+/* All numbers of a card. */
+static void run_card(const struct job *j, long times) {
+  uint64_t answer[SBG_ANSWER];
+  for (; times > 0; times--) {
+    sbg_card_numbers(j->card->bytes, j->card->len, j->card->list, j->card->many, answer, SBG_ANSWER);
+    sink += answer[SBG_A] + j->card->list[4];
+  }
+}
+
+/* What a card spares: the closed walk, and the view of every line. */
+static void run_views(const struct job *j, long times) {
+  uint64_t answer[SBG_ANSWER], *fills = j->card->list + 4;
+  for (; times > 0; times--) {
+    run_walk(j, 1);
+    for (size_t line = 1; line <= j->image->n; line++) {
+      j->reader->line(j->image->bytes, j->image->len, line, answer, SBG_ANSWER);
+      fills[2 * line - 2] = answer[SBG_C];
+      fills[2 * line - 1] = answer[SBG_B];
+    }
+    sink += fills[0];
   }
 }
 
@@ -189,7 +222,7 @@ static void print_head(const char *ours, const char *other) {
 /* ---- what is measured ---- */
 
 static void jobs(const struct image *scene, const struct leader *leader) {
-  struct job j = {run_rows, NULL, scene, leader, 1, 1};
+  struct job j = {run_rows, NULL, scene, leader, 1, 1, NULL};
   print_head("ours, ns", "plain C, ns");
   compare("row copy, 6,000 pixels, 3,000 lines in order, a row", j, 0.8);
   j.run = run_row;
@@ -211,7 +244,7 @@ static void jobs(const struct image *scene, const struct leader *leader) {
 
 /* Whether the cost of a line view depends on the line's number: ours against ours. */
 static void line_numbers(const struct image *scene) {
-  struct job last = {run_line, &OURS, scene, NULL, scene->n, 1}, first = last;
+  struct job last = {run_line, &OURS, scene, NULL, scene->n, 1, NULL}, first = last;
   first.line = 1;
   print_head("ours at line 3,000, ns", "ours at line 1, ns");
   print_row("line view, a view", measure(&last, &first), 0.9, 1.1);
@@ -220,7 +253,7 @@ static void line_numbers(const struct image *scene) {
 /* The walk over images of that many lines and that many bytes a line. */
 static void walk_of(size_t n, size_t l, size_t w) {
   struct image x = make_image(n, l, w, 0, 0);
-  struct job j = {run_walk, NULL, &x, NULL, 1, n};
+  struct job j = {run_walk, NULL, &x, NULL, 1, n, NULL};
   char what[100];
   snprintf(what, sizeof what, "walk, n = %zu, L = %zu, a line", n, l);
   compare(what, j, 0);
@@ -236,6 +269,53 @@ static void growth(void) {
   walk_of(1000, 2192, 1000);
   walk_of(1000, 12192, PIXELS);
   walk_of(1000, 32768, 16288);
+}
+
+/* ---- cards ---- */
+
+static void see(int holds, const char *what) {
+  if (holds) return;
+  fprintf(stderr, "bench: %s\n", what);
+  exit(1);
+}
+
+/* The card of a scene; its numbers are the ones that the line views show. */
+static struct card make_card(const struct image *scene, const struct leader *leader) {
+  uint8_t file[LEADER_FILE];
+  uint64_t answer[SBG_ANSWER];
+  size_t room = 17 + 13 * scene->n + 10 * 3, many = 4 + 2 * scene->n + 2 * 3;
+  struct card card = {malloc(room), room, malloc(many * sizeof *card.list), many};
+  see(card.bytes != NULL && card.list != NULL, "no memory for a card");
+  make_leader_file(file, leader);
+  sbg_card_build(scene->bytes, scene->len, file, sizeof file, card.bytes, room, answer, SBG_ANSWER);
+  see(answer[SBG_TAG] == SBG_BUILT && answer[SBG_A] == room, "the card is not built");
+  sbg_card_numbers(card.bytes, card.len, card.list, many, answer, SBG_ANSWER);
+  see(answer[SBG_TAG] == SBG_CARD && card.list[0] == scene->n, "the card is not read");
+  for (size_t line = 1; line <= scene->n; line++) {
+    sbg_line(scene->bytes, scene->len, line, answer, SBG_ANSWER);
+    see(card.list[2 + 2 * line] == answer[SBG_C] && card.list[3 + 2 * line] == answer[SBG_B], "the card differs from a line's view");
+  }
+  return card;
+}
+
+static void free_card(struct card *card) {
+  free(card->bytes);
+  free(card->list);
+}
+
+/* A card's numbers against the walk and the line views that give the same; then whether its cost grows as the card. */
+static void cards(const struct image *scene, const struct leader *leader) {
+  struct image few = make_image(300, 198, 3, 0, 0), many = make_image(30000, 198, 3, 0, 0);
+  struct card card = make_card(scene, leader), small = make_card(&few, leader), large = make_card(&many, leader);
+  struct job reading = {run_card, &OURS, scene, leader, 1, scene->n, &card}, viewing = reading;
+  viewing.run = run_views;
+  print_head("the card's numbers, ns", "the walk and every line view, ns");
+  print_row("3,000 lines of 12,192 bytes, a line", measure(&reading, &viewing), 0, 0);
+  struct job of_large = {run_card, &OURS, &many, leader, 1, many.n, &large}, of_small = {run_card, &OURS, &few, leader, 1, few.n, &small};
+  print_head("a card of 30,000 lines, ns", "a card of 300 lines, ns");
+  print_row("the card's numbers, a line", measure(&of_large, &of_small), 0.5, 1e9);
+  free_card(&card), free_card(&small), free_card(&large);
+  free(few.bytes), free(many.bytes);
 }
 
 int main(int argc, char **argv) {
@@ -263,6 +343,7 @@ int main(int argc, char **argv) {
   }
   jobs(&scene, &leader);
   line_numbers(&scene);
+  cards(&scene, &leader);
   free(scene.bytes);
   growth();
   return 0;
