@@ -246,7 +246,13 @@ def cannot_write() -> str:
     return f'{len(ways) + 2} cards that cannot be written, each without a trace'
 
 
-LINES, LENGTH = 60_000, 4096  # an image that takes long enough to be ended meanwhile
+LINES, LENGTH, WIDE = 60_000, 4096, 500  # an image that takes long enough to be ended meanwhile
+
+
+def large_card() -> bytes:
+    """By the fills that `sparse` writes, and the two records of the small leader."""
+    fills = [(line % 7, WIDE - line % 7 - line % 5) for line in range(1, LINES + 1)]
+    return cards.written(Card(LINES, LENGTH, WIDE, 2 * WIDE, fills, [(0, 720), (720, 4096)]))
 
 
 def wait_for(folder: Path, child: 'subprocess.Popen[bytes]', seconds: float) -> None:
@@ -260,12 +266,13 @@ def ended_midway() -> str:
     """Runs ended by a signal at any time: there is no card, the old one or the new one, and nothing else."""
     folder = ceos.folder / 'ended'
     folder.mkdir()
-    sparse('ended/IMG', LINES, LENGTH)
+    sparse('ended/IMG', LINES, LENGTH, WIDE)
     (folder / 'LED').write_bytes(small_scene()[1])
     words = [*COMMAND, 'card', 'build', str(folder / 'IMG'), str(folder / 'LED')]
     began = time.monotonic()
     hold('not ended', subprocess.run(words, capture_output=True, timeout=LONG).returncode, ACCEPTED)
     whole, took = (folder / 'IMG.card').read_bytes(), time.monotonic() - began
+    hold(f'a card of {LINES} lines', whole == large_card(), True)
     rng, outcomes = random.Random(84), []
     for turn in range(24 if NATIVE else 6):
         old = rng.choice((None, b'an old card'))

@@ -432,6 +432,8 @@ def card_numbers(rng: random.Random, ask: Asking, block: int) -> None:
 def cards_built(rng: random.Random, ask: Asking, block: int) -> None:
     """Cards of scenes, into buffers of every length near the card's; either file damaged, or both, cut, or exchanged."""
     image, leader = make.random_file(rng, IMAGE), make.random_file(rng, LEADER)
+    if block % 20 == 3:
+        image = make.make_image(rng, make.image_plan(300, 2, 0))  # more lines than a byte counts
     size = 17 + 13 * image.plan[N] + 10 * leader.records
     ones, others = [image.data, make.damage(rng, image), image.data + b'\0'], [leader.data, make.damage(rng, leader), leader.data + b'\0']
     ask.hold(b''.join(ones + others))
