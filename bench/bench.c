@@ -293,7 +293,8 @@ static struct card make_card(const struct image *scene, const struct leader *lea
   see(answer[SBG_TAG] == SBG_CARD && card.list[0] == scene->n, "the card is not read");
   for (size_t line = 1; line <= scene->n; line++) {
     sbg_line(scene->bytes, scene->len, line, answer, SBG_ANSWER);
-    see(card.list[2 + 2 * line] == answer[SBG_C] && card.list[3 + 2 * line] == answer[SBG_B], "the card differs from a line's view");
+    see(card.list[2 + 2 * line] == answer[SBG_C] && card.list[3 + 2 * line] == answer[SBG_B],
+        "the card differs from a line's view");
   }
   return card;
 }
@@ -311,7 +312,8 @@ static void cards(const struct image *scene, const struct leader *leader) {
   viewing.run = run_views;
   print_head("the card's numbers, ns", "the walk and every line view, ns");
   print_row("3,000 lines of 12,192 bytes, a line", measure(&reading, &viewing), 0, 0);
-  struct job of_large = {run_card, &OURS, &many, leader, 1, many.n, &large}, of_small = {run_card, &OURS, &few, leader, 1, few.n, &small};
+  struct job of_large = {run_card, &OURS, &many, leader, 1, many.n, &large};
+  struct job of_small = {run_card, &OURS, &few, leader, 1, few.n, &small};
   print_head("a card of 30,000 lines, ns", "a card of 300 lines, ns");
   print_row("the card's numbers, a line", measure(&of_large, &of_small), 0.5, 1e9);
   free_card(&card), free_card(&small), free_card(&large);

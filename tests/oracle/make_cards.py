@@ -75,7 +75,9 @@ def card_like(rng: random.Random, n: int, leaders: int) -> MadeCard:
 
 
 def random_card(rng: random.Random) -> MadeCard:
-    return card_like(rng, rng.choice((1, 1, 2, 3, rng.randint(1, 12))), rng.choice((0, 1, 2, 3, rng.randint(0, 50), 255 * (rng.random() < 0.05))))
+    """Few lines; as many leader entries as a leader has records, now and then as many as one byte counts."""
+    leaders = 255 if rng.random() < 0.01 else rng.choice((0, 1, 2, 3, rng.randint(0, 50)))
+    return card_like(rng, rng.choice((1, 1, 2, 3, rng.randint(1, 12))), leaders)
 
 
 # --------------------------------------------------------------------------
@@ -129,7 +131,8 @@ def _line_numbers(rng: random.Random, card: Card, line: int) -> Iterator[tuple[i
     w = card.w
     yield from ((other, left, shown) for other in (0, line - 1, line + 1, _other(rng, line, 4)) if other != line)
     yield from ((line, *fills) for fills in ((w + 1, 0), (0, w + 1), (1, w), (w, 1), (FOUR - 1, 0), (0, FOUR - 1)))
-    yield from ((line, *fills) for fills in ((FOUR - 1, 1), (FOUR - 1, w + 1), (w + 1, FOUR - 1), (2**31, 2**31), (FOUR - 1, FOUR - 1)))
+    wrapping = ((FOUR - 1, 1), (FOUR - 1, w + 1), (w + 1, FOUR - 1), (2**31, 2**31), (FOUR - 1, FOUR - 1))
+    yield from ((line, *fills) for fills in wrapping)
 
 
 def _leader_numbers(rng: random.Random, card: Card, ordinal: int) -> Iterator[tuple[int, ...]]:
@@ -141,7 +144,11 @@ def _leader_numbers(rng: random.Random, card: Card, ordinal: int) -> Iterator[tu
 
 def _breaks_of(rng: random.Random, made: MadeCard, i: int) -> Iterator[CardBreak]:
     card, kind, at = made.card, made.data[made.starts[i]], made.starts[i]
-    wrong = {SCENE: lambda: _scene_numbers(rng, card), LINE: lambda: _line_numbers(rng, card, i), LEADER_RECORD: lambda: _leader_numbers(rng, card, i - card.n)}
+    wrong = {
+        SCENE: lambda: _scene_numbers(rng, card),
+        LINE: lambda: _line_numbers(rng, card, i),
+        LEADER_RECORD: lambda: _leader_numbers(rng, card, i - card.n),
+    }
     yield from _kinds(made, i)
     yield from (CardBreak(at, entry(kind, *numbers), i, refused(22, 0, at)) for numbers in wrong[kind]())
 

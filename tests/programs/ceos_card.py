@@ -182,13 +182,8 @@ def drawn_cards() -> str:
         made = make_cards.random_card(rng)
         cases += [show_case(made.data), show_case(make_cards.damage(rng, made)), show_case(make_cards.damage(rng, made))]
     cases += [show_case(make_cards.far_leaders(rng)[0]) for _ in range(4)]
-    cases += [show_case(make_cards.card_like(rng, 3000, 50).data), show_case(image_and_leader()[0])]
+    cases += [show_case(make_cards.card_like(rng, 3000, 50).data), show_case(make.random_file(rng, IMAGE).data)]
     return try_all('cards shown', cases)
-
-
-def image_and_leader() -> tuple[bytes, bytes]:
-    rng = random.Random(83)
-    return make.random_file(rng, IMAGE).data, make.random_file(rng, LEADER).data
 
 
 # Cards that cannot be written -----------------------------------------------------------------------------
@@ -288,8 +283,28 @@ def ended_midway() -> str:
         hold(f'run {turn}, ended: its card is the old one or the new one', card in (old, whole), True)
         hold(f'run {turn}, ended: files', there - {'IMG.card'}, {'IMG', 'LED'})
         outcomes.append(card == whole)
+    shrunk = [shrinks_midway(folder, words, took, whole) for _ in range(4)]
     (folder / 'IMG').unlink()
-    return f'{len(outcomes)} runs ended by a signal: {sum(outcomes)} with the new card, the others as before'
+    return (f'{len(outcomes)} runs ended by a signal: {sum(outcomes)} with the new card, the others as before; '
+            f'{len(shrunk)} images cut meanwhile, {sum(shrunk)} of them seen')
+
+
+def shrinks_midway(folder: Path, words: list[str], took: float, whole: bytes) -> bool:
+    """An image that is cut while it is read: a message and no card; or the run had ended before."""
+    size = (folder / 'IMG').stat().st_size
+    (folder / 'IMG.card').unlink(missing_ok=True)
+    child = subprocess.Popen(words, stdout=subprocess.DEVNULL, stderr=subprocess.PIPE)
+    time.sleep(0.4 * took)
+    os.truncate(folder / 'IMG', size - 100)
+    _, messages = child.communicate(timeout=LONG)
+    seen = child.returncode == FAILED
+    if seen:
+        matches('an image that is cut', messages.decode(), f'ceos: {folder}/IMG: shrank .+\n')
+        hold('an image that is cut', in_folder(folder), {'IMG', 'LED'})
+    else:
+        hold('an image that was cut too late', (child.returncode, (folder / 'IMG.card').read_bytes() == whole), (ACCEPTED, True))
+    os.truncate(folder / 'IMG', size)  # what was cut was a hole
+    return seen
 
 
 # Files that are none, changes, use ------------------------------------------------------------------------
