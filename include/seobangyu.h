@@ -64,7 +64,9 @@ enum {
   SBG_SHOWN = 7,    /* a: start of the data pixels in the file, b: data pixels, c: left fill;
                        the right fill is w - c - b */
   SBG_COPIED = 8,   /* a: samples */
-  SBG_AGREES = 9    /* the set agrees with its directory */
+  SBG_AGREES = 9,   /* the set agrees with its directory */
+  SBG_BUILT = 10,   /* a: bytes of the card */
+  SBG_CARD = 11     /* a: lines, b: leader entries */
 };
 
 /* All but sbg_start return 1 when they answered, and 0 where an array is too short. */
@@ -101,6 +103,24 @@ uint64_t sbg_row(const uint8_t *bytes, size_t len, uint64_t line, uint16_t *row,
 /* A closed directory (volume file), and the record counts of the product's files in pointer order. */
 uint64_t sbg_set(const uint8_t *bytes, size_t len, const uint64_t *counts, size_t counts_len,
                  uint64_t *answer, size_t answer_len);
+
+/* Builds the card of a whole image and its whole leader at the start of the lent bytes: 17 + 13n + 10r
+ * of them, for n lines and r leader records, the descriptor among these; bytes past it stay. The
+ * image's refusal comes first, then the leader's, then 37 where the card does not fit; on a refusal
+ * every byte stays. */
+uint64_t sbg_card_build(const uint8_t *image, size_t image_len, const uint8_t *leader,
+                        size_t leader_len, uint8_t *card, size_t card_len, uint64_t *answer,
+                        size_t answer_len);
+
+/* Judges the bytes as a card, entry by entry from the front: SBG_CARD, or refused with 20, 21 or 22 at
+ * the entry's start. */
+uint64_t sbg_card(const uint8_t *card, size_t len, uint64_t *answer, size_t answer_len);
+
+/* The numbers of a card to the list's start: n, L, w, d, then left fill and data count of each line,
+ * then start and length of each leader entry: 4 + 2n + 2r of them; numbers past them stay. After the
+ * card's own refusal a list that is too short is refused with 37; on a refusal every number stays. */
+uint64_t sbg_card_numbers(const uint8_t *card, size_t len, uint64_t *numbers, size_t numbers_len,
+                          uint64_t *answer, size_t answer_len);
 
 #ifdef __cplusplus
 }

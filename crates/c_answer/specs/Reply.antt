@@ -2,10 +2,10 @@
 use Prim.Native.Nat.{ℕ, zero, suc}
 use mathlib.Core.List.{List, [], _∷_}
 use lib.IntN.{ℤ, pos, negsuc}
-use Rattle.words.specs.Answer.{Answer, Word, refused, waiting, paused, complete, begun, value, blank, badly, shown, copied, agrees}
+use Rattle.words.specs.Answer.{Answer, Word, refused, waiting, paused, complete, begun, value, blank, badly, shown, copied, agrees, built, card}
 use Rattle.c_answer.specs.declared.Reply.{Reply}
 
--- the tag of each word of document 01; no answer of the boundary is `badly`, which a field's refusal 6 says
+-- the tag of each word; `badly` has none of its own: no answer of the boundary is that, since a field's refusal 6 says it
 abbrev pub tagFor : Word → ℕ
 tagFor refused = 0
 tagFor waiting = 1
@@ -17,7 +17,9 @@ tagFor blank = 6
 tagFor shown = 7
 tagFor copied = 8
 tagFor agrees = 9
-tagFor badly = 10
+tagFor built = 10
+tagFor card = 11
+tagFor badly = 0
 
 -- a whole number that is not below 0; no answer has a number below 0
 abbrev pub whole : ℤ → ℕ

@@ -7,7 +7,7 @@ use Rattle.words.specs.declared.Refusal.{Refusal}
 
 -- which answer it is
 pub data Word : Type 0 where
-  refused waiting paused complete begun value blank badly shown copied agrees : Word
+  refused waiting paused complete begun value blank badly shown copied agrees built card : Word
 
 -- an answer: which it is, and its numbers in the order of document 01
 pub record Answer : Type 0 where

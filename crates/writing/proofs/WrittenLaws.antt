@@ -1,10 +1,10 @@
 -- What was written stands there, and all else stays: a written text is cut where it begins and where it ends. So four bytes are read back as the number.
 use Prim.Native.Nat.{ℕ, _+_, _-_, _/_, _%_, _^_, _≤_, _<_}
-use mathlib.Core.Path.{_≡_, sym, ap, _∙_, subst}
-use mathlib.Core.List.{List, _++_, append-assoc}
+use mathlib.Core.Path.{_≡_, refl, sym, ap, ap₂, _∙_, subst}
+use mathlib.Core.List.{List, [], _∷_, _++_, append-assoc, append-nil}
 use native.Mathlib.Omega.{arith}
-use lib.ListN.{length, take, drop, getD, length-append, length-drop}
-use lib.Seq.{take-at, drop-at, drop-drop, length-take-le, getD-append-add}
+use lib.ListN.{length, take, drop, set, getD, length-append, length-drop, take-append-drop}
+use lib.Seq.{sets-eq, take-at, drop-at, drop-drop, length-take-le, getD-append-add}
 use Rattle.words.specs.Words.{byteAt, fourAt}
 use Rattle.words.proofs.Laws.{four-bytes}
 use Rattle.writing.specs.Writing.{written, fourOf}
@@ -41,6 +41,39 @@ stays-later i j new old last h e q =
     let s : i + (j - i) ≡ j = omega arith in
     let go : (l : List ℕ) → drop j l ≡ drop (j - i) (drop i l) = λ l. ap (λ (k : ℕ). drop k l) (sym s) ∙ sym (drop-drop (j - i) i l) in
     e ∙ go new ∙ ap (drop (j - i)) q ∙ sym (go old)
+
+-- nothing written
+pub written-none : (out : List ℕ) (at : ℕ) → written out at [] ≡ out
+written-none out at = let z : at + 0 ≡ at = omega arith in
+    ap (λ (l : List ℕ). l ++ drop (at + 0) out) (append-nil (take at out)) ∙ ap (λ (k : ℕ). take at out ++ drop k out) z ∙ take-append-drop at out
+
+-- two texts, one behind the other, are one text
+pub written-then : (out : List ℕ) (at : ℕ) (t u : List ℕ) → at + length t + length u ≤ length out
+    → written (written out at t) (at + length t) u ≡ written out at (t ++ u)
+written-then out at t u h =
+    let r : ℕ = at + length t in
+    let new : List ℕ = written out at t in
+    let front : take r new ≡ take at out ++ t = take-written out at t (omega arith) r new refl refl in
+    let back : drop (r + length u) new ≡ drop (r + length u) out =
+    stays-later r (r + length u) new out new (omega arith) refl (drop-written out at t (omega arith) r new refl refl) in
+    let long : r + length u ≡ at + length (t ++ u) = omega (arith, length-append t u) in
+    ap₂ (λ (a b : List ℕ). a ++ u ++ b) front back
+    ∙ ap (λ (l : List ℕ). l ++ drop (r + length u) out) (append-assoc (take at out) t u)
+    ∙ ap (λ (k : ℕ). take at out ++ (t ++ u) ++ drop k out) long
+
+-- the same of what a caller has: a text, and one that begins where it ended
+pub written-on : (out : List ℕ) (at to : ℕ) (t u one two : List ℕ) → at + length t ≡ to → to + length u ≤ length out → one ≡ written out at t → two
+    ≡ written one to u
+    → two ≡ written out at (t ++ u)
+written-on out at to t u one two e h p q =
+    q
+    ∙ ap (λ (l : List ℕ). written l to u) p
+    ∙ ap (λ (i : ℕ). written (written out at t) i u) (sym e)
+    ∙ written-then out at t u (omega arith)
+
+-- one byte put
+pub written-one : (out : List ℕ) (at b : ℕ) → at < length out → set out at b ≡ written out at (b ∷ [])
+written-one out at b h = sets-eq (b ∷ []) out at (omega arith)
 
 -- a byte of what was written
 pub byte-written : (out : List ℕ) (at : ℕ) (t : List ℕ) (i : ℕ) → at ≤ length out → byteAt (written out at t) (at + i) ≡ byteAt

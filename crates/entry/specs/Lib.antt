@@ -1,0 +1,2 @@
+-- The specs of `entry`: the layout of an entry.
+pub mod Entry
