@@ -7,6 +7,7 @@
 #include <string.h>
 #include <time.h>
 
+#include "cards.h"
 #include "jobs.h"
 
 const struct reader OURS = {sbg_begin, sbg_walk, sbg_field, sbg_line, sbg_row};
@@ -171,6 +172,33 @@ static void line_numbers(const struct image *scene) {
   print_goal(ratio.median, 0.9, 1.1);
 }
 
+/* One job against another, both ours. */
+static void in_turn(const char *head, const char *what, struct job one, struct job other, double goal) {
+  static double ns[2][MOST_ROUNDS];
+  struct job both[2] = {one, other};
+  measure(both, 2, ns);
+  struct spread ratio = ratio_of(ns[0], ns[1]);
+  printf("\n| job | %s | ratio | goal |\n|---|---|---|---|---|\n| %s |", head, what);
+  print_times(spread_of(ns[0]));
+  print_times(spread_of(ns[1]));
+  printf(" %.2f (%.2f to %.2f) |", ratio.median, ratio.min, ratio.max);
+  print_goal(ratio.median, goal, 1e9);
+}
+
+/* A card's numbers against the walk and the line views that give the same; then whether its cost grows as the card. */
+static void cards(const struct image *scene, const struct leader *leader) {
+  struct image few = make_image(300, 198, 3, 0, 0), many = make_image(30000, 198, 3, 0, 0);
+  struct card card = make_card(scene, leader), small = make_card(&few, leader), large = make_card(&many, leader);
+  struct job reading = {run_card, &OURS, scene, leader, 1, scene->n, &card}, viewing = reading;
+  viewing.run = run_views;
+  in_turn("the card's numbers, ns | the walk and every line view, ns", "3,000 lines of 12,192 bytes, a line", reading, viewing, 20);
+  struct job of_large = {run_card, &OURS, &many, leader, 1, many.n, &large};
+  struct job of_small = {run_card, &OURS, &few, leader, 1, few.n, &small};
+  in_turn("a card of 30,000 lines, ns | a card of 300 lines, ns", "the card's numbers, a line", of_large, of_small, 0.5);
+  free_card(&card), free_card(&small), free_card(&large);
+  free(few.bytes), free(many.bytes);
+}
+
 /* The walk over images of that many lines and that many bytes a line. */
 static void walk_of(size_t n, size_t l, size_t w) {
   struct image x = make_image(n, l, w, 0, 0);
@@ -245,6 +273,7 @@ int main(int argc, char **argv) {
   draw_lines(scene.n);
   jobs(&scene, &leader);
   line_numbers(&scene);
+  cards(&scene, &leader);
   free(scene.bytes);
   growth();
   return 0;

@@ -8,6 +8,8 @@
 #define PIXELS 6000
 #define FRONT_OF_LINE 192 /* bytes of a line's record ahead of its pixels */
 
+struct card;
+
 struct job {
   void (*run)(const struct job *, long times);
   const struct reader *reader; /* NULL for a limit */
@@ -15,6 +17,7 @@ struct job {
   const struct leader *leader;
   uint64_t line; /* the one line asked for */
   size_t in_one; /* how many units of what is reported are in one turn of run */
+  const struct card *card; /* the card that is read, where one is */
 };
 
 /* Readers: a closed walk from a fresh state; the rows in order; one row again; one line's view; views of

@@ -105,6 +105,18 @@ void make_leader(struct leader *x) {
   put_all(x->map, in_map, sizeof in_map / sizeof *in_map);
 }
 
+void make_leader_file(uint8_t *bytes, const struct leader *x) {
+  memset(bytes, ' ', FIRST);
+  open_record(bytes, 1, 0x0bc01212, FIRST);
+  put_text(bytes, 13, "A ");
+  put_number(bytes, 181, 6, 1);
+  put_number(bytes, 187, 6, SUMMARY);
+  put_number(bytes, 193, 6, 1);
+  put_number(bytes, 199, 6, MAP);
+  memcpy(bytes + FIRST, x->summary, SUMMARY);
+  memcpy(bytes + FIRST + SUMMARY, x->map, MAP);
+}
+
 const uint8_t *record_of(const struct leader *x, uint64_t number, size_t *len) {
   *len = number <= 10 ? SUMMARY : MAP;
   return number <= 10 ? x->summary : x->map;

@@ -26,6 +26,10 @@ struct image make_image(size_t n, size_t l, size_t w, size_t s, size_t left);
 /* A record each of a leader with the thirteen listed fields written. */
 void make_leader(struct leader *x);
 
+/* A whole leader file: the descriptor that names the two records, and they. */
+#define LEADER_FILE (720 + SUMMARY + MAP)
+void make_leader_file(uint8_t *bytes, const struct leader *x);
+
 /* The record in which a listed field stands. */
 const uint8_t *record_of(const struct leader *x, uint64_t number, size_t *len);
 

@@ -3,8 +3,8 @@
  * `make ceos` builds it to target/host/ceos.
  *
  * This file finds the command that is asked for in the table (commands.def) and makes the help of it. Each
- * command has a file of its own; walks.c is what they share of the walk, held.c has the files, row.c writes
- * the rows, say.c has the words. */
+ * topic has a file of its own; walks.c is what they share of the walk, held.c has the files that are read, put.c
+ * those that are written, row.c writes the rows, say.c has the words. */
 #include "command.h"
 #include "held.h"
 #include "say.h"
@@ -72,7 +72,9 @@ static const char ANSWERS[] =
     "                                   0); docs/REFUSALS.md says what each number means\n"
     "    WAIT 9 BYTES RECORD 3 AT 918   so many bytes are missing to the next part of that record, which\n"
     "                                   starts there; what has come so far is good\n"
-    "    AGREES 4 FILES                 every file is whole, and the directory tells their record counts\n";
+    "    AGREES 4 FILES                 every file is whole, and the directory tells their record counts\n"
+    "    CARD 2 LINES 3 LEADERS 73 BYTES\n"
+    "                                   so many lines and records of the leader are on the card\n";
 
 static const char STATUS[] =
     "\n"

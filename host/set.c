@@ -14,10 +14,9 @@ static int worse(int one, int other) {
 
 /* Walks a file of the set, says its row, and hands back how many records it has. */
 static int count_records(struct walk *walk, uint64_t *count) {
-  while (batch(walk)) {
-  }
+  int status = to_its_end(walk, true);
   *count = walk->state[SBG_PASSED];
-  return closing(walk, true);
+  return status;
 }
 
 static int say_set(const struct held *volume, const uint64_t *counts, size_t files) {

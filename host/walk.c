@@ -16,7 +16,5 @@ static uint64_t kind_of(const char *word) {
 int run_walk(const struct asked *asked) {
   struct walk walk = begin(kind_of(asked->words[0]), asked->words[1], is_open(asked), false);
   if (walk.answer[SBG_TAG] == SBG_REFUSED) return say_refusal(NULL, walk.file.name, walk.answer);
-  while (batch(&walk)) {
-  }
-  return closing(&walk, false);
+  return to_its_end(&walk, false);
 }

@@ -31,6 +31,12 @@ bool batch(struct walk *walk) {
   return walk->answer[SBG_TAG] == SBG_PAUSE;
 }
 
+int to_its_end(struct walk *walk, bool of_set) {
+  while (batch(walk)) {
+  }
+  return closing(walk, of_set);
+}
+
 int closing(const struct walk *walk, bool of_set) {
   uint64_t passed = walk->state[SBG_PASSED];
   uint64_t start = sbg_start(walk->state, SBG_STATE);

@@ -21,6 +21,9 @@ struct walk begin(uint64_t kind, const char *name, bool open, bool rows);
 /* Walks a batch further. True where it only paused: there is more to come. */
 bool batch(struct walk *walk);
 
+/* Walks to the end: the closing row and its status. */
+int to_its_end(struct walk *walk, bool of_set);
+
 /* The closing row of a walk, with the file's name ahead where it is one of a set, and its status. */
 int closing(const struct walk *walk, bool of_set);
 

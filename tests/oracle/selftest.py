@@ -1,5 +1,6 @@
 """Checks of the oracle against document 01 (docs/RULES.md), what was decided where that
-is silent (docs/DECISIONS.md), and the three demands (docs/PROMISES.md).
+is silent (docs/DECISIONS.md), the three demands (docs/PROMISES.md), and what later
+requests added (document 02).
 
 Run: python3 selftest.py [seed].  Prints what was checked; the last line is the tally.
 """
@@ -12,8 +13,11 @@ import sys
 import time
 from typing import Callable, Iterator
 
+import cards
 import reader
 import make
+import make_cards
+from cards import Card, card_answer, card_numbers, is_card
 from reader import (
     D, EVERY_RECORD, FACILITIES, IMAGE, KIND, L, LEADER, N, PASSED, POINTERS, S, SLOTS, STATE_NUMBERS, TRAILER, VOLUME, W,
     Answer, State, accepted, begin, decimal, field, field_at, good_state, line_view, listing, planned, refused, row_copy,
@@ -814,6 +818,128 @@ def listings(tally: Tally, rng: random.Random) -> None:
         tally.equal(listing(made.data[:cut]), want, "listing, cut", cut)
 
 
+# --------------------------------------------------------------------------
+# Cards (document 02, No. 1)
+# --------------------------------------------------------------------------
+
+# n = 2, L = 198, w = 3, d = 6; the listing's fills; a descriptor and a summary of a leader
+CARD = bytes.fromhex(
+    "01 00000002 000000c6 00000003 00000006"
+    "02 00000001 00000000 00000003"
+    "02 00000002 00000001 00000002"
+    "03 01 00000000 000002d0"
+    "03 02 000002d0 00001000"
+)
+CARD_NUMBERS = [2, 198, 3, 6, 0, 3, 1, 2, 0, 720, 720, 4096]
+
+
+def cards_by_hand(tally: Tally, rng: random.Random) -> None:
+    """A card spelt out, read and built; each sort of entry where it may not stand; the order 20, 21, 22."""
+    scene, line, second, first_record, summary = CARD[:17], CARD[17:30], CARD[30:43], CARD[43:53], CARD[53:]
+    tally.equal(card_numbers(CARD, [9] * 14), (("card", 2, 2), [*CARD_NUMBERS, 9, 9]), "a card's numbers")
+    tally.equal(cards.build(listed_image(rng).data, small_leader(rng), b"." * 65), (("built", 63), CARD + b".."), "the card built")
+    for size in range(len(CARD)):
+        due = ("card", 2, (size - 43) // 10) if size in (43, 53) else refused(21, 0, max(at for at in (0, 17, 30, 43, 53) if at <= size))
+        tally.equal(card_answer(CARD[:size]), due, "a cut card", size)
+    for data, due in (
+        (b"", refused(21)),
+        (scene, refused(21, 0, 17)),
+        (scene + line, refused(21, 0, 30)),
+        (line, refused(22)),
+        (first_record, refused(22)),
+        (line[:-1], refused(21)),  # cut short and out of order
+        (b"\x07", refused(20)),  # unknown, and cut short
+        (scene + scene + line + second, refused(22, 0, 17)),
+        (scene + second + line, refused(22, 0, 17)),
+        (scene + line + line, refused(22, 0, 30)),
+        (scene + line + first_record + second, refused(22, 0, 30)),
+        (scene + line + second + line, refused(22, 0, 43)),
+        (scene + line + second + scene, refused(22, 0, 43)),
+        (scene + line + second + summary, refused(22, 0, 43)),
+        (CARD + first_record, refused(22, 0, 63)),
+        (CARD + b"\x04", refused(20, 0, 63)),
+        (CARD + b"\x03", refused(21, 0, 63)),
+        (CARD + cards.entry(3, 3, 4816, 0), ("card", 2, 3)),
+    ):
+        tally.equal(card_answer(data), due, "a card by hand", data.hex())
+    many = scene + line + second + b"".join(cards.entry(3, ordinal, 0, 0) for ordinal in range(1, 256))
+    tally.equal(card_answer(many), ("card", 2, 255), "as many leader entries as one byte counts")
+    tally.equal(card_answer(many + cards.entry(3, 0, 0, 0)), refused(22, 0, len(many)), "one more")
+
+
+def small_leader(rng: random.Random) -> bytes:
+    """A descriptor and a summary."""
+    return make.make_leader(rng, make.leader_plan([(0, 0)] * 5, [(0, 0)] * 11)).data
+
+
+def cards_read(tally: Tally, rng: random.Random) -> None:
+    """Made cards give their numbers back; every cut; lists of any length; one rule broken, and two."""
+    for _ in range(150):
+        made = make_cards.random_card(rng)
+        tally.equal(cards.read(made.data), made.card, "a made card")
+        for size in {*made.starts, *(rng.randrange(len(made.data)) for _ in range(20))}:
+            due = make_cards.cut_refusal(made, size) or ("card", made.card.n, (size - made.starts[made.scene_and_lines]) // 10)
+            tally.equal(card_answer(made.data[:size]), due, "a made card cut", size)
+        numbers = made.card.numbers()
+        for room in {0, 4, len(numbers) - 1, len(numbers), len(numbers) + 3}:
+            due = (refused(37), [7] * room) if room < len(numbers) else (made.card.answer(), numbers + [7] * (room - len(numbers)))
+            tally.equal(card_numbers(made.data, [7] * room), due, "a list of", room)
+        _check_broken_card(tally, rng, made)
+    for _ in range(60):
+        data, due = make_cards.far_leaders(rng)
+        tally.equal(card_answer(data), due, "a start past four bytes")
+
+
+def _check_broken_card(tally: Tally, rng: random.Random, made: make_cards.MadeCard) -> None:
+    breaks = make_cards.breaks(rng, made)
+    for one in rng.sample(breaks, min(60, len(breaks))):
+        data = one.applied(made.data)
+        tally.equal(card_answer(data), one.refusal, "a broken card", one)
+        tally.equal(card_numbers(data, []), (one.refusal, []), "37 comes last")
+        tally.check(not is_card(data), "a broken card is none")
+        behind = [other for other in breaks if other.entry > one.entry]
+        if behind:
+            tally.equal(card_answer(rng.choice(behind).applied(data)), one.refusal, "the first fault counts", one)
+
+
+def cards_are_read(tally: Tally, rng: random.Random) -> None:
+    """Read <=> it is a card, and what is read is written again byte for byte."""
+    for _ in range(3000):
+        made = make_cards.random_card(rng)
+        data = make_cards.damage(rng, made) if rng.random() < 0.9 else rng.randbytes(rng.randint(0, 40))
+        said = cards.read(data)
+        tally.equal(isinstance(said, Card), is_card(data), "a card is read", data[:80].hex())
+        if isinstance(said, Card):
+            tally.equal(cards.written(said), data, "written again")
+        else:
+            tally.check(said[1] in (20, 21, 22) and said[2] == 0 and said[3] <= len(data), "a card's refusal", said)
+            longer = card_answer(data + rng.randbytes(20))
+            tally.check(said[1] == 21 or longer == said, "more bytes do not mend 20 or 22", said, longer)
+
+
+def cards_built(tally: Tally, rng: random.Random) -> None:
+    """From accepted files the numbers that the makers put there; the image's refusal, the leader's, 37; nothing is written."""
+    for _ in range(150):
+        image, leader = make.random_file(rng, IMAGE), make.random_file(rng, LEADER)
+        lines = [(line.left, len(line.pixels)) for line in image.lines]
+        records = [(begun, ended - begun) for begun, ended in zip(leader.starts, leader.starts[1:])]
+        card = Card(*image.plan[N:S], lines, records)
+        size = 17 + 13 * image.plan[N] + 10 * leader.records
+        lent = rng.randbytes(size + 5)
+        tally.equal(cards.build(image.data, leader.data, lent), (("built", size), cards.written(card) + lent[size:]), "a card built")
+        tally.equal(cards.read(cards.written(card)), card, "a built card reads back")
+        tally.equal(cards.build(image.data, leader.data, lent[: size - 1]), (refused(37), lent[: size - 1]), "one byte too few")
+        bad_image, bad_leader = make.damage(rng, image), make.damage(rng, leader)
+        for one, other, room in itertools.product((image.data, bad_image), (leader.data, bad_leader), (0, size + 400)):
+            stops = [whole_walk(IMAGE, one)[2], whole_walk(LEADER, other)[2]]
+            first = next((stop for stop in stops if stop != ("complete",)), refused(37) if room == 0 else None)
+            answer, after = cards.build(one, other, bytes(room))
+            if first is None:
+                tally.check(answer[0] == "built" and is_card(after[: answer[1]]) and not any(after[answer[1] :]), "built", answer)
+            else:
+                tally.equal((answer, after), (first, bytes(room)), "refused, in order")
+
+
 def same_seed(tally: Tally, rng: random.Random) -> None:
     """A seed gives the same bytes again."""
     for seed in range(30):
@@ -821,13 +947,15 @@ def same_seed(tally: Tally, rng: random.Random) -> None:
         made, again = make.random_file(one), make.random_file(two)
         tally.equal(made.data, again.data, "same file")
         tally.equal(make.damage(one, made), make.damage(two, again), "same damage")
+        tally.equal(make_cards.random_card(one), make_cards.random_card(two), "same card")
 
 
 SECTIONS: tuple[Callable[[Tally, random.Random], None], ...] = (
     proved_examples, edges_and_slips, listing_examples, decimals, listed_fields, begins, state_rule_by_hand,
     states_and_first_records, any_states, far_places, valid_files, unread_bytes, blank_counts, broken_singly,
     broken_in_pairs, broken_and_cut, complete_and_accepted, in_pieces, byte_by_byte, refusals_stay, arriving,
-    body_damage_at_ends, lines_and_rows, broken_lines, lines_shown, sets, listings, same_seed,
+    body_damage_at_ends, lines_and_rows, broken_lines, lines_shown, sets, listings,
+    cards_by_hand, cards_read, cards_are_read, cards_built, same_seed,
 )  # fmt: skip
 
 

@@ -1,8 +1,8 @@
 """The questions to the driver (driver.c) as it reads them, beside the replies that are due by the oracle.
 
 Every question is a case: one call of the boundary with its arrays, and every number of the reply is due: what was
-returned, whether anything was harmed, the answer, and the state, value or row after the call. An array that is too
-short is due 0, and what it held before."""
+returned, whether anything was harmed, the answer, and the state, value, row, card or list of numbers after the call. An
+array that is too short is due 0, and what it held before."""
 import struct
 import sys
 from collections import Counter
@@ -11,19 +11,23 @@ from typing import Optional, Sequence
 
 TESTS = Path(__file__).resolve().parent.parent.parent
 sys.path.insert(0, str(TESTS / 'oracle'))
+import cards  # noqa: E402
 import reader  # noqa: E402
 from reader import Answer, State  # noqa: E402
 
 MANY = 2 ** 64 - 1
 STATE, ANSWER, VALUE = 42, 5, 2  # how many numbers
 NULLS, KEEP = 7, 8  # flags of the driver: NULL wherever a length is 0; hold the moved state
-TAGS = {'refused': 0, 'wait': 1, 'pause': 2, 'complete': 3, 'fresh': 4, 'value': 5, 'blank': 6, 'shown': 7, 'copied': 8, 'agrees': 9}
+TAGS = {'refused': 0, 'wait': 1, 'pause': 2, 'complete': 3, 'fresh': 4, 'value': 5, 'blank': 6, 'shown': 7, 'copied': 8, 'agrees': 9,
+        'built': 10, 'card': 11}
+REFUSALS = (*range(1, 16), 20, 21, 22, 37)  # every number that there is
 LETTERS = {'b': 'sbg_begin', 'w': 'sbg_walk', 't': 'sbg_start', 'f': 'sbg_field', 'l': 'sbg_line', 'r': 'sbg_row', 'c': 'sbg_set',
-           'L': 'the listing by sbg_walk and sbg_line'}
+           'L': 'the listing by sbg_walk and sbg_line', 'u': 'sbg_card_build', 'd': 'sbg_card', 'n': 'sbg_card_numbers'}
 
 # What the driver's arrays hold before a call.
-PATTERN = [0xA5A5A5A5A5A5A500 + i for i in range(256)]
+PATTERN = [0xA5A5A5A5A5A5A500 + i for i in range(1 << 14)]
 SAMPLES = [(i * 40503 + 7) & 0xFFFF for i in range(1 << 15)]
+CARD_BYTES = bytes((i * 151 + 93) & 0xFF for i in range(1 << 17))
 
 _head = struct.Struct('<7Q').pack  # returned, harm, answer
 _state = struct.Struct('<42Q').pack
@@ -99,17 +103,17 @@ class Asking:
 
     # Questions ---------------------------------------------------------------------------------------
 
-    def _ask(self, letter: str, span: Optional[tuple[int, int]], rest: bytes, due: bytes, words: str) -> None:
+    def _ask(self, letter: str, spans: Sequence[tuple[int, int]], rest: bytes, due: bytes, words: str) -> None:
+        """Of these parts of what is held."""
         asked = letter.encode()
         if len(self.ends) == self.stop_at:
-            alone = b'S' + _state(*self.state)
-            if span is not None:
-                data = self.bytes_at(*span)
-                alone += b'B' + struct.pack('<I', len(data)) + data + asked + _span(0, len(data)) + rest
-            else:
-                alone += asked + rest
-            raise Reached(alone, f'{LETTERS[letter]}: {words}', due)
-        self.questions += asked + (_span(*span) if span else b'') + rest
+            alone, data, parts = b'S' + _state(*self.state), b'', b''
+            for span in spans:
+                parts += _span(len(data), span[1])
+                data += self.bytes_at(*span)
+            alone += b'B' + struct.pack('<I', len(data)) + data
+            raise Reached(alone + asked + parts + rest, f'{LETTERS[letter]}: {words}', due)
+        self.questions += asked + b''.join(_span(*span) for span in spans) + rest
         self.due += due
         self.ends.append(len(self.due))
 
@@ -132,7 +136,7 @@ class Asking:
         after = after if answered else self.state
         rest = _number(kind) + _lengths(array_len, answer_len, NULLS | (KEEP if keep else 0))
         due = self._told(answered, answer, 0, answer_len) + self._state_due(after, array_len)
-        self._ask('b', None, rest, due, f'kind {kind}, state of {array_len}, answer of {answer_len}')
+        self._ask('b', [], rest, due, f'kind {kind}, state of {array_len}, answer of {answer_len}')
         if keep and answered:
             self.state = after
 
@@ -147,7 +151,7 @@ class Asking:
         rest = struct.pack('<QQ3B', closed, budget, array_len, answer_len, NULLS | (KEEP if keep else 0))
         due = self._told(answered, stop, count, answer_len) + self._state_due(after, array_len)
         words = f'{size} bytes, closed {closed}, budget {budget}, state of {array_len} {self.state}, answer of {answer_len}'
-        self._ask('w', (at, size), rest, due, words)
+        self._ask('w', [(at, size)], rest, due, words)
         if keep:
             self.state = list(after)
         return stop
@@ -161,7 +165,7 @@ class Asking:
     def start(self, array_len: int = STATE) -> int:
         place = reader.start(self.state) if array_len >= STATE else 0
         due = _head(place, 0, *untouched(ANSWER, ANSWER)) + self._state_due(self.state, array_len)
-        self._ask('t', None, _lengths(array_len, ANSWER, NULLS), due, f'state of {array_len} {self.state}')
+        self._ask('t', [], _lengths(array_len, ANSWER, NULLS), due, f'state of {array_len} {self.state}')
         return place
 
     def field(self, at: int, size: int, number: int, array_len: int = VALUE, answer_len: int = ANSWER) -> None:
@@ -172,13 +176,13 @@ class Asking:
             value = (answer[1] % 2 ** 64, answer[2] % 2 ** 64)
         rest = _number(number) + _lengths(array_len, answer_len, NULLS)
         due = self._told(answered, answer, 0, answer_len) + _value(*value)
-        self._ask('f', (at, size), rest, due, f'field {number} of {size} bytes, value of {array_len}, answer of {answer_len}')
+        self._ask('f', [(at, size)], rest, due, f'field {number} of {size} bytes, value of {array_len}, answer of {answer_len}')
 
     def line(self, at: int, size: int, line: int, answer_len: int = ANSWER) -> Answer:
         answer = reader.line_view(self.bytes_at(at, size), line)
         rest = _number(line) + _lengths(0, answer_len, NULLS)
         due = self._told(answer_len >= ANSWER, answer, 0, answer_len)
-        self._ask('l', (at, size), rest, due, f'line {line} of {size} bytes, answer of {answer_len}')
+        self._ask('l', [(at, size)], rest, due, f'line {line} of {size} bytes, answer of {answer_len}')
         return answer
 
     def row(self, at: int, size: int, line: int, row_len: int, answer_len: int = ANSWER) -> Answer:
@@ -187,19 +191,44 @@ class Asking:
         rest = struct.pack('<QI3B', line, row_len, 0, answer_len, NULLS)
         samples = struct.pack(f'<{row_len}H', *(after if answered else before))
         due = self._told(answered, answer, 0, answer_len) + samples
-        self._ask('r', (at, size), rest, due, f'line {line} of {size} bytes, row of {row_len}, answer of {answer_len}')
+        self._ask('r', [(at, size)], rest, due, f'line {line} of {size} bytes, row of {row_len}, answer of {answer_len}')
         return answer
 
     def set(self, at: int, size: int, counts: Sequence[int], answer_len: int = ANSWER) -> None:
         answer = reader.set_check(self.bytes_at(at, size), counts)
         rest = struct.pack(f'<I{len(counts)}Q3B', len(counts), *counts, 0, answer_len, NULLS)
         due = self._told(answer_len >= ANSWER, answer, 0, answer_len)
-        self._ask('c', (at, size), rest, due, f'{size} bytes, counts {list(counts)}, answer of {answer_len}')
+        self._ask('c', [(at, size)], rest, due, f'{size} bytes, counts {list(counts)}, answer of {answer_len}')
+
+    def card_build(self, image: tuple[int, int], leader: tuple[int, int], card_len: int, answer_len: int = ANSWER) -> Answer:
+        """Of two parts of what is held: place and size of each."""
+        answered, before = answer_len >= ANSWER, CARD_BYTES[:card_len]
+        answer, after = cards.build(self.bytes_at(*image), self.bytes_at(*leader), before)
+        rest = struct.pack('<I3B', card_len, 0, answer_len, NULLS)
+        due = self._told(answered, answer, 0, answer_len) + (after if answered else before)
+        self._ask('u', [image, leader], rest, due, f'{image[1]} and {leader[1]} bytes, card of {card_len}, answer of {answer_len}')
+        return answer
+
+    def card(self, at: int, size: int, answer_len: int = ANSWER) -> Answer:
+        data = self.bytes_at(at, size)
+        answer = cards.card_answer(data)
+        if (answer[0] == 'card') != cards.is_card(data):
+            raise Disagree(f'{size} bytes: the reading says {answer}, what a card is otherwise')
+        due = self._told(answer_len >= ANSWER, answer, 0, answer_len)
+        self._ask('d', [(at, size)], _lengths(0, answer_len, NULLS), due, f'{size} bytes, answer of {answer_len}')
+        return answer
+
+    def card_numbers(self, at: int, size: int, many: int, answer_len: int = ANSWER) -> None:
+        answered, before = answer_len >= ANSWER, PATTERN[:many]
+        answer, after = cards.card_numbers(self.bytes_at(at, size), before)
+        rest = struct.pack('<I3B', many, 0, answer_len, NULLS)
+        due = self._told(answered, answer, 0, answer_len) + struct.pack(f'<{many}Q', *(after if answered else before))
+        self._ask('n', [(at, size)], rest, due, f'{size} bytes, list of {many}, answer of {answer_len}')
 
     def listing(self, at: int, size: int) -> None:
         rows = reader.listing(self.bytes_at(at, size))
         due = struct.pack('<QQ', len(rows), 0) + rows
-        self._ask('L', (at, size), _lengths(0, 0, 0), due, f'{size} bytes')
+        self._ask('L', [(at, size)], _lengths(0, 0, 0), due, f'{size} bytes')
 
 
 # For a report -------------------------------------------------------------------------------------------
@@ -209,9 +238,12 @@ def told(letter: str, reply: bytes) -> list[str]:
     """A reply in words, part by part."""
     if letter == 'L':
         return [f'{int.from_bytes(reply[:8], "little")} bytes of rows', *reply[16:].decode('ascii', 'replace').split('\n')]
-    count = min(7, len(reply) // 8) if letter == 'r' else len(reply) // 8
+    count = min(7, len(reply) // 8) if letter in 'ru' else len(reply) // 8
     names = ['returned', 'harm', 'tag', 'a', 'b', 'c', 'count']
-    names += ['number', 'exponent'] if letter == 'f' else [f'state[{i}]' for i in range(STATE)]
+    behind = {'f': ['number', 'exponent'], 'n': [f'numbers[{i}]' for i in range(count)]}
+    names += behind.get(letter, [f'state[{i}]' for i in range(STATE)])
     parts = [f'{name} {number}' for name, number in zip(names, struct.unpack(f'<{count}Q', reply[:8 * count]))]
+    if letter == 'u':
+        return parts + [f'card[{i}] {byte}' for i, byte in enumerate(reply[56:])]
     samples = reply[56:len(reply) // 2 * 2] if letter == 'r' else b''
     return parts + [f'row[{i}] {sample}' for i, (sample,) in enumerate(struct.iter_unpack('<H', samples))]

@@ -7,11 +7,14 @@
  * Numbers are little-endian. It keeps bytes and a state:
  *   B size:4 bytes          hold these bytes        P place:4 size:4 bytes   put some into them
  *   S 42 numbers            hold this state         K index:1 number:8       one number of it
- * A question is a letter, then, if it is of bytes, from:4 and length:4 in the bytes held; then
+ * A question is a letter, then, if it is of bytes, from:4 and length:4 in the bytes held (u: twice, image and
+ * leader); then
  *   b kind:8                w closed:8 budget:8     t (the start)            f number:8
  *   l line:8                r line:8 row:4          c many:4 counts:8..      L (list an image by b, w and l)
+ *   u card:4                d (read a card)         n many:4
  * then three bytes: the length of state or value, the length of the answer, and flags: 1, 2, 4 NULL for
- * bytes, for state, value, row or counts, for the answer, where the length is 0; 8 hold the moved state.
+ * bytes, for state, value, row, counts, card or numbers, for the answer, where the length is 0; 8 hold the
+ * moved state.
  * Each reply is: returned:8, harm:8, and the arrays after the call (0 past their end). */
 #define _DEFAULT_SOURCE
 #include "../guard.h"
@@ -52,13 +55,14 @@ static uint64_t number(size_t size) {
   return n;
 }
 
-static Arena bytes_arena, array_arena, answer_arena;
+static Arena bytes_arena, leader_arena, array_arena, answer_arena;
 
 static uint64_t harm_ahead(const void *array) { return harmed_ahead(array) ? AHEAD_OF_ARRAY : 0; }
 
 /* What an array holds before the call. */
 static uint64_t pattern(size_t i) { return 0xA5A5A5A5A5A5A500u + i; }
 static uint16_t sample_pattern(size_t i) { return (uint16_t)(i * 40503 + 7); }
+static uint8_t card_pattern(size_t i) { return (uint8_t)(i * 151 + 93); }
 
 static void fill(uint64_t *numbers, size_t from, size_t len) {
   for (size_t i = from; i < len; i++) numbers[i] = pattern(i);
@@ -85,21 +89,34 @@ static uint8_t *held;
 static size_t held_len;
 static uint64_t held_state[SBG_STATE];
 
-/* The bytes of a question, at the end of their memory. */
-static const uint8_t *bytes, *bytes_as_held;
+/* Bytes of a question, at the end of their memory. */
+typedef struct {
+  const uint8_t *bytes, *as_held;
+  size_t len;
+} Part;
+
+static Part take_part(Arena *arena) {
+  size_t from = number(4), len = number(4);
+  if (from > held_len || len > held_len - from) die("no such bytes are held");
+  return (Part){memcpy(fit(arena, len), held + from, len), held + from, len};
+}
+
+static uint64_t harm_part(const Part *part) {
+  return (memcmp(part->bytes, part->as_held, part->len) ? CONST_BYTES : 0) | harm_ahead(part->bytes);
+}
+
+/* Most questions are of one part. */
+static Part asked;
+static const uint8_t *bytes;
 static size_t len;
 
 static void take_bytes(void) {
-  size_t from = number(4);
-  len = number(4);
-  if (from > held_len || len > held_len - from) die("no such bytes are held");
-  bytes_as_held = held + from;
-  bytes = memcpy(fit(&bytes_arena, len), bytes_as_held, len);
+  asked = take_part(&bytes_arena);
+  bytes = asked.bytes;
+  len = asked.len;
 }
 
-static uint64_t harm_bytes(void) {
-  return (memcmp(bytes, bytes_as_held, len) ? CONST_BYTES : 0) | harm_ahead(bytes);
-}
+static uint64_t harm_bytes(void) { return harm_part(&asked); }
 
 /* The arrays of a question: state, value or nothing, and the answer. */
 static size_t array_len, answer_len;
@@ -210,6 +227,36 @@ static void ask_set(void) {
   reply(returned, harm | harm_bytes() | harm_ahead(counts));
 }
 
+static void ask_card_build(void) {
+  Part image = take_part(&bytes_arena), leader = take_part(&leader_arena);
+  size_t card_len = number(4);
+  take_lengths();
+  uint8_t *card = fit(&array_arena, card_len);
+  for (size_t i = 0; i < card_len; i++) card[i] = card_pattern(i);
+  uint64_t returned = sbg_card_build(or_null(image.bytes, image.len, NULL_BYTES), image.len, or_null(leader.bytes, leader.len, NULL_BYTES),
+                                     leader.len, or_null(card, card_len, NULL_ARRAY), card_len, answer_arg(), answer_len);
+  reply(returned, harm_part(&image) | harm_part(&leader) | harm_ahead(card));
+  put(card, card_len);
+}
+
+static void ask_card(void) {
+  take_bytes();
+  take_lengths();
+  reply(sbg_card(bytes_arg(), len, answer_arg(), answer_len), harm_bytes());
+}
+
+static void ask_card_numbers(void) {
+  take_bytes();
+  size_t many = number(4);
+  take_lengths();
+  uint64_t *numbers = fit(&array_arena, 8 * many);
+  fill(numbers, 0, many);
+  uint64_t *lent = or_null(numbers, many, NULL_ARRAY);
+  uint64_t returned = sbg_card_numbers(bytes_arg(), len, lent, many, answer_arg(), answer_len);
+  reply(returned, harm_bytes() | harm_ahead(numbers));
+  put(numbers, 8 * many);
+}
+
 /* The listing of an image, record by record; the reply is how many bytes, 0, and the rows. */
 static char *rows;
 static size_t rows_len, rows_room;
@@ -292,6 +339,9 @@ static void follow(uint64_t letter) {
   case 'r': ask_row(); break;
   case 'c': ask_set(); break;
   case 'L': ask_list(); break;
+  case 'u': ask_card_build(); break;
+  case 'd': ask_card(); break;
+  case 'n': ask_card_numbers(); break;
   default: die("no such letter");
   }
 }

@@ -22,7 +22,7 @@ from typing import Generator, Iterator, Optional
 sys.dont_write_bytecode = True
 HERE = Path(__file__).resolve().parent
 sys.path.insert(0, str(HERE))
-from asking import LETTERS, TAGS, Asking, Disagree, Reached, told  # noqa: E402
+from asking import LETTERS, REFUSALS, TAGS, Asking, Disagree, Reached, told  # noqa: E402
 import reader  # noqa: E402
 import sorts  # noqa: E402
 from sorts import BY_NAME, SORTS  # noqa: E402
@@ -32,7 +32,7 @@ MADE = HOME / 'target' / 'differential'
 LIBRARY = HOME / 'target' / 'lib' / 'libseobangyu.a'
 RUN, CC = str(HOME / 'scripts' / 'run'), str(HOME / 'scripts' / 'cc')
 CASES, SEED = 200_000, 20260
-SELFTEST = 8_000  # cases that the wrong libraries are asked
+SELFTEST = 9_500  # cases that the wrong libraries are asked
 BATCH = 6_000_000  # bytes of questions and replies, about
 LONG = 120 if platform.machine() == 'x86_64' else 1200  # seconds that a batch may take
 LISTINGS = 200  # inputs of the listing program
@@ -182,10 +182,10 @@ class Tally:
         print('  sorts: ' + ', '.join(f'{name} {many}' for name, many in self.sorts.items()))
         print('  answers: ' + ', '.join(f'{words[tag]} {self.tags[tag]}' for tag in sorted(words)) + f', no answer (an array too short) {self.unanswered}')
         print(f'  acceptance told a second way, by the list of a file\'s records: {self.accepted}')
-        print('  refusals: ' + ', '.join(f'{number}: {self.refusals[number]}' for number in range(1, 16)))
+        print('  refusals: ' + ', '.join(f'{number}: {self.refusals[number]}' for number in REFUSALS))
 
     def missing(self) -> list[str]:
-        return [f'tag {tag}' for tag in range(10) if not self.tags[tag]] + [f'refusal {number}' for number in range(1, 16) if not self.refusals[number]]
+        return [f'tag {tag}' for tag in TAGS.values() if not self.tags[tag]] + [f'refusal {number}' for number in REFUSALS if not self.refusals[number]]
 
 
 def blocks(cases: int, seed: int) -> Generator[Where, int, None]:
@@ -281,7 +281,7 @@ def selftest(seed: int) -> int:
             missed.append(way)
     noticed, cases = len(ways) - len(missed), sum(tally.sorts.values())
     print(f'differential: {noticed} of {len(ways)} wrong libraries noticed in {cases} cases, {time.monotonic() - began:.0f} s')
-    if missed or len(ways) < 20:
+    if missed or len(ways) < 50:
         print(f'NOT NOTICED: {", ".join(missed)}')
         return 1
     return 0

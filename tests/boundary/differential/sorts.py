@@ -9,6 +9,7 @@ from asking import MANY, STATE, Asking
 
 import reader  # the path to tests/oracle is set by asking
 import make
+import make_cards
 from reader import IMAGE, LEADER, N, PASSED, TRAILER, VOLUME, W
 from make import KINDS, Made
 
@@ -378,6 +379,79 @@ def listing(rng: random.Random, ask: Asking, block: int) -> None:
         ask.listing(0, len(data))
 
 
+# Cards ------------------------------------------------------------------------------------------------
+
+
+def cards_read(rng: random.Random, ask: Asking, block: int) -> None:
+    """Cards, valid, with each rule broken, damaged, cut, added to; and bytes that are none."""
+    made = make_cards.card_like(rng, 3_000, 255) if block == 5 else make_cards.random_card(rng)
+    size, breaks = len(made.data), make_cards.breaks(rng, made)
+    ask.hold(made.data + b'\0')
+    ask.card(0, size)
+    ask.card(0, size + 1)
+    for cut in {*rng.sample(made.starts, min(8, len(made.starts))), *(rng.randint(0, size) for _ in range(8)), *range(18)}:
+        ask.card(0, min(cut, size))
+    for one in rng.sample(breaks, min(len(breaks), 60)):
+        old = ask.put(one.place, one.patch)
+        ask.card(0, size)
+        ask.card(0, min(size, one.place + rng.randint(0, 17)))  # cut short as well
+        ask.put(one.place, old)
+    for data in (*(make_cards.damage(rng, made) for _ in range(10)), make_cards.far_leaders(rng)[0], rng.randbytes(rng.randint(0, 60)), b''):
+        ask.hold(data)
+        ask.card(0, len(data))
+
+
+def card_cuts(rng: random.Random, ask: Asking, block: int) -> None:
+    """A small card cut at every byte; each second time with one rule broken; with its numbers."""
+    made = make_cards.card_like(rng, rng.randint(1, 3), rng.randint(0, 3))
+    data = rng.choice(make_cards.breaks(rng, made)).applied(made.data) if block % 2 else made.data
+    ask.hold(data)
+    for size in range(len(data) + 1):
+        ask.card(0, size)
+        ask.card_numbers(0, size, len(made.card.numbers()))
+
+
+def card_numbers(rng: random.Random, ask: Asking, block: int) -> None:
+    """All numbers into lists too short, just long enough, and longer; on refusals too."""
+    made = make_cards.card_like(rng, 3_000, 50) if block == 5 else make_cards.random_card(rng)
+    size, many = len(made.data), len(made.card.numbers())
+    ask.hold(made.data)
+    for room in (0, 1, 4, many - 2, many - 1, many, many + 1, many + 9, rng.randint(0, many)):
+        ask.card_numbers(0, size, room)
+    for cut in rng.sample(made.starts, min(len(made.starts), 6)):
+        ask.card_numbers(0, cut, rng.choice((many, 0)))
+    for one in rng.sample(make_cards.breaks(rng, made), 12):
+        old = ask.put(one.place, one.patch)
+        ask.card_numbers(0, size, rng.choice((many, many, 0)))
+        ask.put(one.place, old)
+    for data in (make_cards.damage(rng, made), make_cards.far_leaders(rng)[0]):
+        ask.hold(data)
+        ask.card_numbers(0, len(data), many + 20)
+
+
+def cards_built(rng: random.Random, ask: Asking, block: int) -> None:
+    """Cards of scenes, into buffers of every length near the card's; either file damaged, or both, cut, or exchanged."""
+    image, leader = make.random_file(rng, IMAGE), make.random_file(rng, LEADER)
+    if block % 20 == 3:
+        image = make.make_image(rng, make.image_plan(300, 2, 0))  # more lines than a byte counts
+    size = 17 + 13 * image.plan[N] + 10 * leader.records
+    ones, others = [image.data, make.damage(rng, image), image.data + b'\0'], [leader.data, make.damage(rng, leader), leader.data + b'\0']
+    ask.hold(b''.join(ones + others))
+    places = [sum(map(len, (ones + others)[:i])) for i in range(6)]
+    images = [(at, len(data)) for at, data in zip(places[:3], ones)]
+    leaders = [(at, len(data)) for at, data in zip(places[3:], others)]
+    for card_len in (0, 1, 17, size - 10, size - 1, size, size + 1, size + 70):
+        ask.card_build(images[0], leaders[0], card_len)
+    for one in images:
+        for other in leaders:
+            ask.card_build(one, other, rng.choice((size, size + 30, 0)))
+    ask.card_build(leaders[0], images[0], size)
+    for one, other in ((images[0], (0, 0)), ((0, 0), leaders[0]), ((0, 0), (0, 0))):
+        ask.card_build(one, other, size)
+    ask.card_build((0, rng.randrange(images[0][1])), leaders[0], rng.choice((size, 0)))
+    ask.card_build(images[0], (leaders[0][0], rng.randrange(leaders[0][1])), rng.choice((size, 0)))
+
+
 # Arrays too short or longer, NULL --------------------------------------------------------------------------
 
 
@@ -401,11 +475,24 @@ def arrays(rng: random.Random, ask: Asking, block: int) -> None:
         ask.line(a, rng.choice((0, b)), rng.randint(0, 2), answer_len)
         ask.row(a, rng.choice((0, b, b)), rng.randint(0, 2), rng.choice((0, 3, image.plan[W])), answer_len)
         ask.set(a + b, rng.choice((0, len(volume.data))), volume.counts[:rng.choice((0, 9))], answer_len)
+    card_arrays(rng, ask)
+
+
+def card_arrays(rng: random.Random, ask: Asking) -> None:
+    """A card, its numbers and its building with answers of every length."""
+    image, leader, made = make.random_file(rng, IMAGE), make.random_file(rng, LEADER), make_cards.random_card(rng)
+    ask.hold(image.data + leader.data + made.data)
+    a, b, c = len(image.data), len(leader.data), len(made.data)
+    size, many = 17 + 13 * image.plan[N] + 10 * leader.records, len(made.card.numbers())
+    for answer_len in range(8):
+        ask.card(a + b, rng.choice((0, c)), answer_len)
+        ask.card_numbers(a + b, rng.choice((0, c, c)), rng.choice((0, many, many + 2)), answer_len)
+        ask.card_build((0, a), (a, rng.choice((0, b, b))), rng.choice((0, size, size + 4)), answer_len)
 
 
 # sort: its share of a thousand cases
 SORTS: dict[Sort, int] = {
     whole: 60, broken: 150, damaged: 110, cuts: 150, pieces: 80, states: 110, begins: 5, far: 40, fields: 100, numbers: 60,
-    lines: 60, rows: 40, sets: 25, listing: 10, arrays: 25,
+    lines: 60, rows: 40, sets: 25, listing: 10, arrays: 25, cards_read: 60, card_cuts: 30, card_numbers: 30, cards_built: 40,
 }
 BY_NAME: dict[str, Sort] = {sort.__name__: sort for sort in SORTS}

@@ -15,6 +15,9 @@ uint64_t REAL(sbg_field)(const uint8_t *, size_t, uint64_t, int64_t *, size_t, u
 uint64_t REAL(sbg_line)(const uint8_t *, size_t, uint64_t, uint64_t *, size_t);
 uint64_t REAL(sbg_row)(const uint8_t *, size_t, uint64_t, uint16_t *, size_t, uint64_t *, size_t);
 uint64_t REAL(sbg_set)(const uint8_t *, size_t, const uint64_t *, size_t, uint64_t *, size_t);
+uint64_t REAL(sbg_card_build)(const uint8_t *, size_t, const uint8_t *, size_t, uint8_t *, size_t, uint64_t *, size_t);
+uint64_t REAL(sbg_card)(const uint8_t *, size_t, uint64_t *, size_t);
+uint64_t REAL(sbg_card_numbers)(const uint8_t *, size_t, uint64_t *, size_t, uint64_t *, size_t);
 
 static int wrong(const char *way) {
   const char *chosen = getenv("WRONG");
@@ -133,5 +136,113 @@ uint64_t OURS(sbg_set)(const uint8_t *bytes, size_t len, const uint64_t *counts,
     memset(answer, 0, 8 * SBG_ANSWER);
     answer[SBG_TAG] = SBG_AGREES;
   }
+  return altered(returned, answer, answer_len);
+}
+
+static void tell(uint64_t *answer, uint64_t tag, uint64_t a, uint64_t b) {
+  memset(answer, 0, 8 * SBG_ANSWER);
+  answer[SBG_TAG] = tag;
+  answer[SBG_A] = a;
+  answer[SBG_B] = b;
+}
+
+/* Fills that are at most w only because their sum wraps are let through. */
+static void wrap_card_fills(const uint8_t *card, size_t len, uint64_t *answer) {
+  const uint8_t *entry = card + answer[SBG_C];
+  if (answer[SBG_A] != 22 || answer[SBG_C] == 0 || entry[0] != 2) return;
+  if ((uint32_t)(four(entry + 5) + four(entry + 9)) > four(card + 9)) return;
+  uint8_t *other = malloc(len);
+  memcpy(other, card, len);
+  memset(other + answer[SBG_C] + 5, 0, 8);
+  REAL(sbg_card)(other, len, answer, SBG_ANSWER);
+  free(other);
+}
+
+/* A start that is the sum of the lengths only because that wraps is let through, where its entry is the last. */
+static void wrap_card_start(const uint8_t *card, size_t len, uint64_t *answer) {
+  size_t at = answer[SBG_C], first = 17 + 13 * (len > 17 ? four(card + 1) : 0);
+  uint64_t told[SBG_ANSWER], sum = 0;
+  if (answer[SBG_A] != 22 || len - at != 10 || at < first || card[at] != 3) return;
+  for (size_t i = first; i < at; i += 10) sum += four(card + i + 6);
+  if ((uint32_t)sum != four(card + at + 2) || sum == (uint32_t)sum) return;
+  REAL(sbg_card)(card, at, told, SBG_ANSWER);
+  tell(answer, SBG_CARD, told[SBG_A], told[SBG_B] + 1);
+}
+
+static void alter_card_refusal(const uint8_t *card, size_t len, uint64_t *answer) {
+  uint64_t *no = answer + SBG_A, *place = answer + SBG_C;
+  int cut = *no == 21 && *place < len, ends = *no == 21 && *place == len;
+  if (wrong("card-fills-wrap")) wrap_card_fills(card, len, answer);
+  if (wrong("card-start-wraps")) wrap_card_start(card, len, answer);
+  if (*no == 20 && wrong("card-20-is-21")) *no = 21;
+  if (*no == 21 && wrong("card-21-is-20")) *no = 20;
+  if (cut && (*place == 0) != (card[*place] == 1) && wrong("card-22-before-21")) *no = 22;
+  if (cut && wrong("card-cut-at-its-end")) *place = len;
+  if (wrong("card-place-of-the-body")) *place += 1;
+  if (ends && len >= 30 && wrong("card-of-fewer-lines")) tell(answer, SBG_CARD, (len - 17) / 13, 0);
+}
+
+uint64_t OURS(sbg_card)(const uint8_t *card, size_t len, uint64_t *answer, size_t answer_len) {
+  uint64_t returned = REAL(sbg_card)(card, len, answer, answer_len);
+  if (returned && answer[SBG_TAG] == SBG_REFUSED) alter_card_refusal(card, len, answer);
+  if (returned && answer[SBG_TAG] == SBG_CARD && answer[SBG_B] && wrong("card-descriptor-left-out")) answer[SBG_B]--;
+  if (returned && answer[SBG_TAG] == SBG_CARD && !answer[SBG_B] && wrong("card-needs-a-leader")) tell(answer, SBG_REFUSED, 21, 0), answer[SBG_C] = len;
+  return altered(returned, answer, answer_len);
+}
+
+static void alter_numbers(uint64_t *numbers, size_t numbers_len, uint64_t *answer) {
+  size_t used = 4 + 2 * answer[SBG_A] + 2 * answer[SBG_B];
+  uint64_t left = numbers[4];
+  if (wrong("numbers-right-for-data")) numbers[5] = numbers[2] - left - numbers[5];
+  if (wrong("numbers-data-ahead-of-left")) numbers[4] = numbers[5], numbers[5] = left;
+  if (answer[SBG_B] && wrong("numbers-end-for-length")) numbers[used - 1] += numbers[used - 2];
+  if (used < numbers_len && wrong("numbers-tail")) numbers[used] = 0;
+}
+
+uint64_t OURS(sbg_card_numbers)(const uint8_t *card, size_t len, uint64_t *numbers, size_t numbers_len, uint64_t *answer,
+                                size_t answer_len) {
+  uint64_t returned = REAL(sbg_card_numbers)(card, len, numbers, numbers_len, answer, answer_len);
+  int refused = returned && answer[SBG_TAG] == SBG_REFUSED;
+  if (returned && !refused) alter_numbers(numbers, numbers_len, answer);
+  if (refused && answer[SBG_A] != 37 && numbers_len == 0 && wrong("numbers-37-first")) tell(answer, SBG_REFUSED, 37, 0);
+  if (refused && answer[SBG_A] == 37 && numbers_len > 4 && wrong("numbers-as-far-as-they-go")) numbers[0] = four(card + 1);
+  if (refused && answer[SBG_A] == 22 && numbers_len > 4 && wrong("numbers-before-the-fault")) numbers[0] = four(card + 1);
+  return altered(returned, answer, answer_len);
+}
+
+/* The leader is walked first. */
+static void leader_first(const uint8_t *leader, size_t len, uint64_t *answer) {
+  uint64_t state[SBG_STATE], told[SBG_ANSWER];
+  REAL(sbg_begin)(SBG_LEADER, state, SBG_STATE, told, SBG_ANSWER);
+  REAL(sbg_walk)(state, SBG_STATE, leader, len, 1, UINT64_MAX, told, SBG_ANSWER);
+  if (told[SBG_TAG] != SBG_REFUSED) return;
+  memcpy(answer, told, sizeof told);
+  answer[SBG_COUNT] = 0;
+}
+
+static void alter_built(uint8_t *card, size_t card_len, const uint64_t *answer) {
+  size_t size = answer[SBG_A], first = 17 + 13 * four(card + 1);
+  for (size_t at = first; at < size; at += 10) {
+    if (wrong("build-ordinals-from-0")) card[at + 1]--;
+    if (wrong("build-starts-from-1")) card[at + 5]++;
+  }
+  if (wrong("build-low-byte-first")) card[13] = card[16], card[16] = 0;
+  if (wrong("build-lines-from-0")) card[21]--;
+  if (size < card_len && wrong("build-tail")) card[size] ^= 1;
+  if (size == card_len && wrong("build-past")) *(volatile uint8_t *)(card + card_len) = 3;
+}
+
+static void alter_unbuilt(const uint8_t *leader, size_t leader_len, uint8_t *card, size_t card_len, uint64_t *answer) {
+  if (wrong("build-leader-first")) leader_first(leader, leader_len, answer);
+  if (card_len == 0 && wrong("build-37-first")) tell(answer, SBG_REFUSED, 37, 0);
+  if (answer[SBG_A] == 37 && card_len > 0 && wrong("build-as-far-as-it-goes")) card[0] ^= 1;
+  if (answer[SBG_A] != 37 && card_len > 0 && wrong("build-before-it-judges")) card[0] ^= 1;
+}
+
+uint64_t OURS(sbg_card_build)(const uint8_t *image, size_t image_len, const uint8_t *leader, size_t leader_len, uint8_t *card,
+                              size_t card_len, uint64_t *answer, size_t answer_len) {
+  uint64_t returned = REAL(sbg_card_build)(image, image_len, leader, leader_len, card, card_len, answer, answer_len);
+  if (returned && answer[SBG_TAG] == SBG_BUILT) alter_built(card, card_len, answer);
+  if (returned && answer[SBG_TAG] == SBG_REFUSED) alter_unbuilt(leader, leader_len, card, card_len, answer);
   return altered(returned, answer, answer_len);
 }

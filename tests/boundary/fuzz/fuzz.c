@@ -2,7 +2,8 @@
  * fit together as document 01 says. Run by scripts/fuzz with libFuzzer; with -DALONE it has a main of its own
  * that alters the seeds by drawn numbers, where there is no libFuzzer.
  *
- * An input is 16 bytes of choices (struct Choices) and the bytes of a file. */
+ * An input is 16 bytes of choices (struct Choices) and the bytes of a file, of a card, or of an image and a leader
+ * with the cut between them. */
 #define _DEFAULT_SOURCE
 #include "../guard.h"
 #include "seobangyu.h"
@@ -14,13 +15,13 @@ enum { FRONT = 16, MOST = 40000, ROW = 2000, SAMPLE = 0x5AA5 };
 static const uint64_t POISON = 0xA5A5A5A5A5A5A5A5u;
 
 /* Which refusals a function gives, as bits: a first record's, a line's, and each one's own. */
-#define NO(number) (1u << (number))
-enum {
-  RECORD_NOS = NO(3) | NO(4) | NO(5) | NO(6) | NO(7) | NO(8),
-  WALK_NOS = RECORD_NOS | NO(2) | NO(9) | NO(10) | NO(11),
-  LINE_NOS = RECORD_NOS | NO(10) | NO(13),
-  SET_NOS = RECORD_NOS | NO(2) | NO(9) | NO(12)
-};
+#define NO(number) ((uint64_t)1 << (number))
+#define RECORD_NOS (NO(3) | NO(4) | NO(5) | NO(6) | NO(7) | NO(8))
+#define WALK_NOS (RECORD_NOS | NO(2) | NO(9) | NO(10) | NO(11))
+#define LINE_NOS (RECORD_NOS | NO(10) | NO(13))
+#define SET_NOS (RECORD_NOS | NO(2) | NO(9) | NO(12))
+#define CARD_NOS (NO(20) | NO(21) | NO(22))
+#define BUILD_NOS (RECORD_NOS | NO(2) | NO(9) | NO(10) | NO(37))
 
 typedef struct {
   uint64_t kind, closed, budget, line, field, index, number;
@@ -63,15 +64,17 @@ static const uint8_t *lend(Arena *arena, const uint8_t *bytes, size_t len) {
 
 /* Each function with its answer looked at: what every answer must be ---------------------------------------- */
 
-static void refused_of(const uint64_t *a, uint32_t numbers) {
-  hold(a[SBG_A] >= 1 && a[SBG_A] <= 15 && numbers >> a[SBG_A] & 1, "a refusal that this function does not give");
-  if (a[SBG_A] == 1 || a[SBG_A] == 11 || a[SBG_A] >= 13) hold(a[SBG_B] == 0 && a[SBG_C] == 0, "a refusal's record and place are 0");
+static void refused_of(const uint64_t *a, uint64_t numbers) {
+  static const uint64_t of_no_record = NO(1) | NO(11) | NO(12) | NO(13) | NO(14) | NO(15) | CARD_NOS | NO(37), placed = NO(12) | CARD_NOS;
+  hold(a[SBG_A] <= 37 && numbers >> a[SBG_A] & 1, "a refusal that this function does not give");
+  if (of_no_record >> a[SBG_A] & 1) hold(a[SBG_B] == 0, "a refusal's record is 0");
+  if ((of_no_record & ~placed) >> a[SBG_A] & 1) hold(a[SBG_C] == 0, "a refusal's place is 0");
 }
 
 /* Numbers that a tag does not use are 0. tags and numbers: bits of what may come. */
-static void shape(const uint64_t *a, uint32_t tags, uint32_t numbers) {
-  static const int used[] = {3, 1, 0, 0, 0, 0, 0, 3, 1, 0};
-  hold(a[SBG_TAG] <= 9 && tags >> a[SBG_TAG] & 1, "a tag that this function does not give");
+static void shape(const uint64_t *a, uint32_t tags, uint64_t numbers) {
+  static const int used[] = {3, 1, 0, 0, 0, 0, 0, 3, 1, 0, 1, 2};
+  hold(a[SBG_TAG] <= SBG_CARD && tags >> a[SBG_TAG] & 1, "a tag that this function does not give");
   for (int i = used[a[SBG_TAG]]; i < 3; i++) hold(a[1 + i] == 0, "an unused number is not 0");
   if (a[SBG_TAG] == SBG_REFUSED) refused_of(a, numbers);
 }
@@ -309,6 +312,171 @@ static void check_set(const uint8_t *bytes, size_t len, const Choices *c) {
   hold(told[SBG_A] == 12 && told[SBG_C] == 360 * (other + 1) + 100, "12 where one differs");
 }
 
+/* Cards ----------------------------------------------------------------------------------------------------- */
+
+enum { SCENE = 17, LINE = 13, LEADER = 10, SCENE_NUMBERS = 4, BUILT = 1 << 13, NUMBERS = 2 * MOST };
+
+static uint64_t four(const uint8_t *b) { return (uint64_t)b[0] << 24 | (uint64_t)b[1] << 16 | (uint64_t)b[2] << 8 | b[3]; }
+
+static void card_of(const uint8_t *card, size_t len, uint64_t *told) {
+  property = "card";
+  hold(sbg_card(card, len, told, SBG_ANSWER) == 1, "no answer");
+  shape(told, 1 << SBG_REFUSED | 1 << SBG_CARD, CARD_NOS);
+  hold(told[SBG_COUNT] == 0, "a card has no count");
+  if (told[SBG_TAG] == SBG_REFUSED) {
+    hold(told[SBG_C] <= len, "the place lies in the card, or at its end");
+    hold(told[SBG_A] == 21 || told[SBG_C] < len, "20 and 22 have an entry");
+    return;
+  }
+  hold(len == SCENE + LINE * told[SBG_A] + LEADER * told[SBG_B], "a card is its entries, and nothing else");
+}
+
+/* The numbers are those that stand at places which n alone fixes, and they agree. */
+static void check_numbers(const uint8_t *card, const uint64_t *numbers, const uint64_t *told) {
+  const uint64_t *fills = numbers + SCENE_NUMBERS, *places = fills + 2 * told[SBG_A];
+  const uint8_t *leaders = card + SCENE + LINE * told[SBG_A];
+  uint64_t start = 0;
+  for (int i = 0; i < SCENE_NUMBERS; i++) hold(numbers[i] == four(card + 1 + 4 * i), "n, L, w, d");
+  hold(numbers[0] == told[SBG_A] && numbers[3] == 2 * numbers[2] && 192 + numbers[3] <= numbers[1], "they agree");
+  for (uint64_t i = 0; i < told[SBG_A]; i++) {
+    const uint8_t *entry = card + SCENE + LINE * i;
+    hold(entry[0] == 2 && four(entry + 1) == i + 1, "the lines in order");
+    hold(fills[2 * i] == four(entry + 5) && fills[2 * i + 1] == four(entry + 9), "left and data");
+    hold(fills[2 * i] + fills[2 * i + 1] <= numbers[2], "at most w");
+  }
+  for (uint64_t i = 0; i < told[SBG_B]; i++, start += places[2 * i - 1]) {
+    const uint8_t *entry = leaders + LEADER * i;
+    hold(entry[0] == 3 && entry[1] == i + 1, "the leader's records in order");
+    hold(places[2 * i] == start && start == four(entry + 2) && places[2 * i + 1] == four(entry + 6), "start and length");
+  }
+}
+
+/* Into a list of that length: what the card's reading says, or 37; what is not used stays. */
+static void check_card_numbers(const uint8_t *card, size_t len, size_t room, const uint64_t *told) {
+  static uint64_t numbers[NUMBERS];
+  uint64_t a[SBG_ANSWER], used = 0, due = SCENE_NUMBERS + 2 * told[SBG_A] + 2 * told[SBG_B];
+  property = "card numbers";
+  for (size_t i = 0; i < room + 1; i++) numbers[i] = POISON;
+  hold(sbg_card_numbers(card, len, numbers, room, a, SBG_ANSWER) == 1, "no answer");
+  shape(a, 1 << SBG_REFUSED | 1 << SBG_CARD, CARD_NOS | NO(37));
+  if (told[SBG_TAG] == SBG_CARD && room < due) {
+    hold(a[SBG_TAG] == SBG_REFUSED && a[SBG_A] == 37, "too short a list is 37");
+  } else {
+    hold(same(a, told, SBG_ANSWER), "the numbers say what the card says");
+    if (told[SBG_TAG] == SBG_CARD) used = due, check_numbers(card, numbers, told);
+  }
+  for (size_t i = used; i < room + 1; i++) hold(numbers[i] == POISON, "later numbers stay");
+}
+
+/* A card that ends earlier: 21, or the same with fewer leader records; 20 and 22 are known once their entry is there. */
+static void check_card_cut(const uint8_t *card, const uint64_t *told, size_t cut) {
+  uint64_t early[SBG_ANSWER];
+  card_of(lend(&part_arena, card, cut), cut, early);
+  if (early[SBG_TAG] == SBG_CARD)
+    hold(told[SBG_TAG] == SBG_REFUSED || (told[SBG_A] == early[SBG_A] && told[SBG_B] >= early[SBG_B]), "a card with more behind it");
+  else if (early[SBG_A] != 21)
+    hold(same(early, told, SBG_ANSWER), "more bytes never alter 20 or 22");
+  else
+    hold(told[SBG_TAG] == SBG_CARD || told[SBG_C] >= early[SBG_C], "the fault is not before the cut entry");
+}
+
+/* What lies before the fault is good, and ends with an entry. */
+static void check_card_place(const uint8_t *card, const uint64_t *told) {
+  uint64_t before[SBG_ANSWER];
+  if (told[SBG_TAG] != SBG_REFUSED) return;
+  card_of(lend(&part_arena, card, told[SBG_C]), told[SBG_C], before);
+  hold(before[SBG_TAG] == SBG_CARD || (before[SBG_A] == 21 && before[SBG_C] == told[SBG_C]), "the place is an entry's start, the first that is wrong");
+}
+
+static void check_card(const uint8_t *card, size_t len, const Choices *c) {
+  uint64_t told[SBG_ANSWER];
+  card_of(card, len, told);
+  seen(8, told, told[SBG_TAG] == SBG_REFUSED ? told[SBG_C] : told[SBG_A] * 50 + told[SBG_B]);
+  check_card_cut(card, told, c->cut);
+  check_card_place(card, told);
+  size_t due = told[SBG_TAG] == SBG_CARD ? SCENE_NUMBERS + 2 * told[SBG_A] + 2 * told[SBG_B] : 0;
+  check_card_numbers(card, len, due, told);
+  check_card_numbers(card, len, due + c->number % 9, told);
+  if (due) check_card_numbers(card, len, c->number % due, told);
+}
+
+/* A built card reads back as the walk had it. */
+static void check_built(const uint8_t *image, size_t image_len, const uint8_t *card, const Walked *scene, const Walked *leader) {
+  static uint64_t numbers[NUMBERS];
+  uint64_t told[SBG_ANSWER], view[SBG_ANSWER];
+  size_t len = SCENE + LINE * scene->state[SBG_N] + LEADER * leader->state[SBG_PASSED];
+  card_of(card, len, told);
+  hold(told[SBG_TAG] == SBG_CARD && told[SBG_A] == scene->state[SBG_N] && told[SBG_B] == leader->state[SBG_PASSED], "a built card is a card");
+  hold(sbg_card_numbers(card, len, numbers, NUMBERS, told, SBG_ANSWER) == 1 && told[SBG_TAG] == SBG_CARD, "it has its numbers");
+  property = "built";
+  hold(same(numbers, scene->state + SBG_N, SCENE_NUMBERS), "n, L, w, d of the plan");
+  const uint64_t *fills = numbers + SCENE_NUMBERS, *places = fills + 2 * told[SBG_A];
+  for (uint64_t line = 1; line <= told[SBG_A]; line++, fills += 2) {
+    sbg_line(image, image_len, line, view, SBG_ANSWER);
+    hold(fills[0] == view[SBG_C] && fills[1] == view[SBG_B], "a line's left fill and data as the view shows them");
+  }
+  Walked at = *leader;
+  for (uint64_t passed = 1; passed <= told[SBG_B]; passed++, places += 2) {
+    at.state[SBG_PASSED] = passed;
+    hold(places[0] + places[1] == sbg_start(at.state, SBG_STATE), "a leader record ends where the walk has the next");
+  }
+}
+
+static void build(const uint8_t *image, size_t image_len, const uint8_t *leader, size_t leader_len, size_t room, const Walked *scene,
+                  const Walked *beside) {
+  static uint8_t card[BUILT];
+  uint64_t told[SBG_ANSWER], size = SCENE + LINE * scene->state[SBG_N] + LEADER * beside->state[SBG_PASSED], used = 0;
+  memset(card, 0xA5, sizeof card);
+  property = "build";
+  hold(sbg_card_build(image, image_len, leader, leader_len, card, room, told, SBG_ANSWER) == 1, "no answer");
+  shape(told, 1 << SBG_REFUSED | 1 << SBG_BUILT, BUILD_NOS);
+  hold(told[SBG_COUNT] == 0, "a built card has no count");
+  seen(9, told, room >= size);
+  if (scene->answer[SBG_TAG] != SBG_COMPLETE) {
+    hold(same(told, scene->answer, SBG_COUNT), "the image's refusal first");
+  } else if (beside->answer[SBG_TAG] != SBG_COMPLETE) {
+    hold(same(told, beside->answer, SBG_COUNT), "then the leader's");
+  } else if (room < size) {
+    hold(told[SBG_TAG] == SBG_REFUSED && told[SBG_A] == 37, "then 37");
+  } else {
+    hold(told[SBG_TAG] == SBG_BUILT && told[SBG_A] == size, "built exactly where it fits");
+    used = size;
+    check_built(image, image_len, card, scene, beside);
+  }
+  for (size_t i = used; i < BUILT; i++) hold(card[i] == 0xA5, "the rest of the buffer stays");
+}
+
+/* The bytes up to the cut are an image, those behind it a leader. */
+static void check_build(const uint8_t *bytes, size_t len, const Choices *c) {
+  Walked image = begun(SBG_IMAGE), leader = begun(SBG_LEADER);
+  const uint8_t *behind = len ? bytes + c->cut : NULL;
+  Walked scene = walked(&image, bytes, c->cut, 1, MANY), beside = walked(&leader, behind, len - c->cut, 1, MANY);
+  build(bytes, c->cut, behind, len - c->cut, BUILT, &scene, &beside);
+  build(bytes, c->cut, behind, len - c->cut, c->number % 400, &scene, &beside);
+  if (scene.answer[SBG_TAG] != SBG_COMPLETE || beside.answer[SBG_TAG] != SBG_COMPLETE) return;
+  size_t size = SCENE + LINE * scene.state[SBG_N] + LEADER * beside.state[SBG_PASSED];
+  build(bytes, c->cut, behind, len - c->cut, size, &scene, &beside);
+  build(bytes, c->cut, behind, len - c->cut, size - 1, &scene, &beside);
+}
+
+/* The calls of cards with an answer of that length, in an array that is longer. */
+static void check_card_arrays(const uint8_t *bytes, size_t len, size_t answer_len) {
+  uint64_t answer[SBG_ANSWER + 8], poison[SBG_ANSWER + 8], numbers[SCENE_NUMBERS], told[3];
+  uint8_t card[SCENE], before[SCENE];
+  memset(poison, 0xA5, sizeof poison), memset(numbers, 0xA5, sizeof numbers), memset(card, 0xA5, sizeof card);
+  memcpy(before, card, sizeof card);
+  for (int call = 0; call < 3; call++) {
+    memset(answer, 0xA5, sizeof answer);
+    if (call == 0) told[0] = sbg_card(bytes, len, answer, answer_len);
+    if (call == 1) told[1] = sbg_card_numbers(bytes, len, numbers, SCENE_NUMBERS, answer, answer_len);
+    if (call == 2) told[2] = sbg_card_build(bytes, len, bytes, len, card, SCENE, answer, answer_len);
+    hold(told[call] == (answer_len >= SBG_ANSWER), "0 exactly where the answer is too short");
+    size_t said = told[call] ? SBG_ANSWER : 0;
+    hold(same(answer + said, poison + said, SBG_ANSWER + 8 - said), "the rest stays");
+  }
+  hold(!memcmp(card, before, sizeof card) && same(numbers, poison, SCENE_NUMBERS), "what is too short stays");
+}
+
 /* Arrays that are too short: 0, and nothing is written; past the used numbers nothing is written. */
 static void check_arrays(const Walked *from, const uint8_t *bytes, size_t len, const Choices *c) {
   uint64_t state[SBG_STATE + 8], answer[SBG_ANSWER + 8], before[SBG_STATE + 8], poison[SBG_ANSWER + 8];
@@ -329,6 +497,7 @@ static void check_arrays(const Walked *from, const uint8_t *bytes, size_t len, c
   used = told ? SBG_VALUE : 0, said = told ? SBG_ANSWER : 0;
   for (size_t i = used; i < SBG_VALUE + 2; i++) hold(value[i] == (int64_t)POISON, "the rest stays");
   hold(same(answer + said, poison + said, SBG_ANSWER + 8 - said), "the rest stays");
+  check_card_arrays(bytes, len, answer_len);
 }
 
 /* A state deep in a huge image: its start is past 32 bits. */
@@ -394,6 +563,8 @@ int LLVMFuzzerTestOneInput(const uint8_t *data, size_t size) {
   check_wait(&fresh, bytes, len);
   check_line(bytes, len, &c);
   check_set(bytes, len, &c);
+  check_card(bytes, len, &c);
+  check_build(bytes, len, &c);
   check_arrays(&fresh, bytes, len, &c);
   check_rest(&fresh, bytes, len, c);
   hold(len == 0 || (!memcmp(bytes, data + FRONT, len) && !harmed_ahead(bytes)), "bytes were written");
