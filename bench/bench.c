@@ -153,7 +153,7 @@ static void jobs(const struct image *scene, const struct leader *leader) {
   puts("\n| job | ours, ns | the strongest opponent, ns | it is | ratio | limit, ns (limit / ours) | instructions, ours : it | goal |\n"
        "|---|---|---|---|---|---|---|---|");
   for (size_t i = 0; i < JOB_COUNT; i++) {
-    struct job j = {JOBS[i].run, NULL, scene, leader, 1, units(JOBS[i].run, scene)};
+    struct job j = {JOBS[i].run, NULL, scene, leader, 1, units(JOBS[i].run, scene), NULL};
     compare(JOBS[i].name, j, JOBS[i].limit, JOBS[i].goal, (int)i);
   }
 }
@@ -161,7 +161,7 @@ static void jobs(const struct image *scene, const struct leader *leader) {
 /* Whether the cost of a line view depends on the line's number: ours against ours. */
 static void line_numbers(const struct image *scene) {
   static double ns[2][MOST_ROUNDS];
-  struct job both[2] = {{run_line, &OURS, scene, NULL, scene->n, 1}, {run_line, &OURS, scene, NULL, 1, 1}};
+  struct job both[2] = {{run_line, &OURS, scene, NULL, scene->n, 1, NULL}, {run_line, &OURS, scene, NULL, 1, 1, NULL}};
   measure(both, 2, ns);
   struct spread ratio = ratio_of(ns[0], ns[1]);
   puts("\n| job | ours at line 3,000, ns | ours at line 1, ns | ratio | goal |\n|---|---|---|---|---|");
@@ -202,7 +202,7 @@ static void cards(const struct image *scene, const struct leader *leader) {
 /* The walk over images of that many lines and that many bytes a line. */
 static void walk_of(size_t n, size_t l, size_t w) {
   struct image x = make_image(n, l, w, 0, 0);
-  struct job j = {run_walk, NULL, &x, NULL, 1, n};
+  struct job j = {run_walk, NULL, &x, NULL, 1, n, NULL};
   char what[100];
   snprintf(what, sizeof what, "walk, n = %zu, L = %zu, a line", n, l);
   compare(what, j, touch_lines, 0, -1);
@@ -230,7 +230,7 @@ static int count(size_t which, size_t who, long times) {
   struct leader leader;
   make_leader(&leader);
   draw_lines(scene.n);
-  struct job j = {JOBS[which].run, READER[who], &scene, &leader, 1, 1};
+  struct job j = {JOBS[which].run, READER[who], &scene, &leader, 1, 1, NULL};
   counted(&j, times);
   return 0;
 }

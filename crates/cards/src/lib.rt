@@ -3,8 +3,11 @@
 use words::Refusal;
 ghost use mathlib.Core.Path.{_≡_};
 ghost use mathlib.Core.Bool.{true};
-ghost use Prim.Native.Nat.{_+_, _*_, _≤_};
+ghost use Prim.Native.Nat.{_+_, _*_, _≤_, _<_, _^_};
+ghost use lib.Dec.{eqb, leb};
 ghost use lib.ListN.{length, drop};
+ghost use Rattle.words.specs.Tests.{bothOf};
+ghost use Rattle.words.specs.Words.{fourAt};
 ghost use Rattle.writing.specs.Writing.{written};
 ghost use Rattle.cards.specs.Check.{bodyOf, faultOf, refusedWith, firstHolds, lineHolds, leaderHolds};
 ghost use Rattle.cards.specs.Check.{linesOf, leadersOf, checkOf, Few, pairsFrom, numbersOf, listOf};
@@ -69,13 +72,31 @@ fn first_holds(b: &[u8]) -> bool
     allowed::good(plan::IMAGE, p)
 }
 
-// Kind 2: the line's number, and left fill and data count whose ordinary sum is at most w.
+// A line's number is the one due, and left fill and data count add up, an ordinary sum, to w at most.
+fn line_agrees(number: u64, left: u64, count: u64, k: u64, w: u64) -> bool
+    requires { ⌜ (left < 2 ^ 32) × (count < 2 ^ 32) ⌝ }
+    ensures { λ r. ⌜ r ≡ bothOf (eqb number k) (leb (left + count) w) ⌝ }
+{
+    words::both(words::is(number, k), left + count <= w)
+}
+
+// Kind 2: what the entry says of line k. An entry that is there is tested once for its bytes, and not
+// at each number (docs/SPEED.md).
 fn line_holds(b: &[u8], k: u64, w: u64) -> bool
     ensures { λ r. ⌜ r ≡ lineHolds k w (now (b .entry)) ⌝ }
 {
-    let left = words::four(b, 5);
-    let data = words::four(b, 9);
-    words::both(words::is(words::four(b, 1), k), left + data <= w)
+    if b.len() < 13 {
+        return line_agrees(
+            words::four(b, 1),
+            words::four(b, 5),
+            words::four(b, 9),
+            k,
+            w,
+        );
+    }
+    let left = words::four_there(b, 5);
+    let data = words::four_there(b, 9);
+    line_agrees(words::four_there(b, 1), left, data, k, w)
 }
 
 // Kind 3: the leader record's ordinal, and a start that is the sum of the lengths before it.
@@ -149,6 +170,32 @@ pub fn check(card: &[u8]) -> Checked
     leaders(card, n, 17 + 13 * n as usize)
 }
 
+// Two numbers that stand one behind the other.
+struct Two {
+    one: u64,
+    two: u64,
+}
+
+// The two numbers from a place on; where they have come they are tested once for their bytes.
+fn two_at(b: &[u8], at: usize) -> Two
+    requires { ⌜ at ≤ 9999999999 ⌝ }
+    ensures { λ r. ⌜ (r .one ≡ fourAt (now (b .entry)) at) × (r .two ≡ fourAt (now (b .entry)) (at + 4)) ⌝ }
+{
+    let len = b.len();
+    if 8 <= len {
+        if at <= len - 8 {
+            return Two {
+                one: words::four_there(b, at),
+                two: words::four_there(b, at + 4),
+            };
+        }
+    }
+    Two {
+        one: words::four(b, at),
+        two: words::four(b, at + 4),
+    }
+}
+
 // Pairs of numbers, which stand a step apart from a place of the card on, to a place of the list on.
 fn pairs(card: &[u8], from: usize, step: usize, count: usize, out: &mut [u64], to: usize)
     requires { ⌜ (from ≤ 99999999) × (step ≤ 13) × (count ≤ 999999) × (to + 2 * count ≤ length (now out)) ⌝ }
@@ -157,10 +204,9 @@ fn pairs(card: &[u8], from: usize, step: usize, count: usize, out: &mut [u64], t
     let mut i: usize = 0;
     let mut at = from;
     while i < count {
-        let one = words::four(card, at);
-        let two = words::four(card, at + 4);
-        out[to + 2 * i] = one;
-        out[to + 2 * i + 1] = two;
+        let pair = two_at(card, at);
+        out[to + 2 * i] = pair.one;
+        out[to + 2 * i + 1] = pair.two;
         at += step;
         i += 1;
     }

@@ -1,6 +1,4 @@
--- Both tests, of the numbers read.
-use mathlib.Core.Path.{refl, sym, ap, _∙_}
-use Rattle.words.proofs.Laws.{both≡}
+-- The numbers are read where they stand, tested one by one or once.
 use Rattle.cards.specs.Check.{lineHolds}
 use borrow.Author.Needs.{needs}
 use Rattle.cards.proofs.line_holds.Statement.{statement}
@@ -15,23 +13,28 @@ four-requires-2 c κs = search needs
 four-requires-3 : tie.Need-four-requires-3
 four-requires-3 c κs = search needs
 
-is-requires : tie.Need-is-requires
-is-requires c κs = search needs
-
-add-both : tie.Need-add-both
-add-both c = search needs
-
-both-requires : tie.Need-both-requires
-both-requires c κs = search needs
+line-agrees-requires : tie.Need-line-agrees-requires
+line-agrees-requires c κs = search needs
 
 returns : tie.Need-returns
 unfolding lineHolds
-returns c =
-    let four = c .before .before .before .before .four in
-    let four2 = c .before .before .before .four2 in
-    let four3 = c .before .before .four3 in
-    let is = c .before .is in
-    rw (← four .ensures .0, ← four2 .ensures .0, ← four3 .ensures .0, ← is .ensures) (c .both .ensures)
+returns c = rw (← c .before .before .before .four .ensures .0, ← c .before .before .four2 .ensures .0, ← c .before .four3 .ensures .0) (c .line-agrees .ensures)
+
+four-there-requires : tie.Need-four-there-requires
+four-there-requires c κs = search needs
+
+four-there-requires-2 : tie.Need-four-there-requires-2
+four-there-requires-2 c κs = search needs
+
+four-there-requires-3 : tie.Need-four-there-requires-3
+four-there-requires-3 c κs = search needs
+
+line-agrees-requires-2 : tie.Need-line-agrees-requires-2
+line-agrees-requires-2 c κs = search needs
+
+returns-2 : tie.Need-returns-2
+unfolding lineHolds
+returns-2 c = rw (← c .before .four-there3 .ensures .0, ← c .before .before .before .four-there .ensures .0, ← c .before .before .four-there2 .ensures .0) (c .line-agrees2 .ensures)
 
 pub line-holds-spec : {M : Type 1} → statement M
 line-holds-spec =
@@ -40,7 +43,10 @@ line-holds-spec =
     four-requires
     four-requires-2
     four-requires-3
-    is-requires
-    add-both
-    both-requires
-    returns)
+    line-agrees-requires
+    returns
+    four-there-requires
+    four-there-requires-2
+    four-there-requires-3
+    line-agrees-requires-2
+    returns-2)

@@ -1,8 +1,6 @@
 -- What is left to write behind the pairs that are written gives the whole.
-use borrow.Author.Needs.{needs}
 use Prim.Native.Nat.{ℕ, _+_, _-_, _*_, _≤_}
 use mathlib.Core.Path.{_≡_, refl, sym, ap, _∙_}
-use mathlib.Core.List.{List}
 use native.Mathlib.Nat.{sub-zero}
 use native.Mathlib.Omega.{arith}
 use lib.ListN.{length, set, length-set}
@@ -29,68 +27,59 @@ loop-holds c = let args = c .before .before .args in (
   refl,
 )
 
-four-requires : tie.Need-four-requires Inv-loop μ-loop
-four-requires c κs = search needs
-
-add-four : tie.Need-add-four Inv-loop μ-loop
-add-four c = omega (arith, c .before .before .before .before .before .pre, c .before .before .loop .inv)
-
-four-requires-2 : tie.Need-four-requires-2 Inv-loop μ-loop
-four-requires-2 c κs = search needs
+two-at-requires : tie.Need-two-at-requires Inv-loop μ-loop
+two-at-requires c κs = omega (arith, c .before .before .before .before .pre, c .before .loop .inv)
 
 mul-out : tie.Need-mul-out Inv-loop μ-loop
-mul-out c = omega (arith, c .before .before .before .before .before .before .pre, c .before .before .before .loop .inv)
+mul-out c = omega (arith, c .before .before .before .before .before .pre, c .before .before .loop .inv)
 
 add-out : tie.Need-add-out Inv-loop μ-loop
-add-out c = omega (arith, c .before .before .before .before .before .before .pre, c .before .before .before .loop .inv)
+add-out c = omega (arith, c .before .before .before .before .before .pre, c .before .before .loop .inv)
 
 mul-out-2 : tie.Need-mul-out-2 Inv-loop μ-loop
-mul-out-2 c = omega (arith, c .before .before .before .before .before .before .pre, c .before .before .before .loop .inv)
+mul-out-2 c = omega (arith, c .before .before .before .before .before .pre, c .before .before .loop .inv)
 
 slice-write-out : tie.Need-slice-write-out Inv-loop μ-loop
-slice-write-out c = omega (arith, c .before .before .before .before .before .before .pre, c .before .before .before .loop .inv)
+slice-write-out c = omega (arith, c .before .before .before .before .before .pre, c .before .before .loop .inv)
 
 mul-out-3 : tie.Need-mul-out-3 Inv-loop μ-loop
-mul-out-3 c = omega (arith, c .before .before .before .before .before .before .pre, c .before .before .before .loop .inv)
+mul-out-3 c = omega (arith, c .before .before .before .before .before .pre, c .before .before .loop .inv)
 
 add-out-2 : tie.Need-add-out-2 Inv-loop μ-loop
-add-out-2 c = omega (arith, c .before .before .before .before .before .before .pre, c .before .before .before .loop .inv)
+add-out-2 c = omega (arith, c .before .before .before .before .before .pre, c .before .before .loop .inv)
 
 add-out-3 : tie.Need-add-out-3 Inv-loop μ-loop
-add-out-3 c = omega (arith, c .before .before .before .before .before .before .pre, c .before .before .before .loop .inv)
+add-out-3 c = omega (arith, c .before .before .before .before .before .pre, c .before .before .loop .inv)
 
 mul-out-4 : tie.Need-mul-out-4 Inv-loop μ-loop
-mul-out-4 c = omega (arith, c .before .before .before .before .before .before .pre, c .before .before .before .loop .inv)
+mul-out-4 c = omega (arith, c .before .before .before .before .before .pre, c .before .before .loop .inv)
 
 slice-write-out-2 : tie.Need-slice-write-out-2 Inv-loop μ-loop
 slice-write-out-2 c =
-    let args = c .before .before .before .before .before .before .args in
-    let pre = c .before .before .before .before .before .before .pre in
-    let loop = c .before .before .before .loop in
-    let four = c .before .four in
-    omega (arith, pre, loop .inv, length-set (loop .out) (args .to + 2 * loop .i) (four .result))
+    let args = c .before .before .before .before .before .args in
+    let loop = c .before .before .loop in
+    omega (arith, c .before .before .before .before .before .pre, loop .inv, length-set (loop .out) (args .to + 2 * loop .i) (c .two-at .result .one))
 
 add-at : tie.Need-add-at Inv-loop μ-loop
-add-at c = omega (arith, c .before .before .before .before .before .before .pre, c .before .before .before .loop .inv)
+add-at c = omega (arith, c .before .before .before .before .before .pre, c .before .before .loop .inv)
 
 add-i : tie.Need-add-i Inv-loop μ-loop
-add-i c = omega (arith, c .before .before .before .before .before .before .pre, c .before .before .before .loop .inv)
+add-i c = omega (arith, c .before .before .before .before .before .pre, c .before .before .loop .inv)
 
 loop-less : tie.Need-loop-less Inv-loop μ-loop
 loop-less c = omega arith
 
 loop-again : tie.Need-loop-again Inv-loop μ-loop
 loop-again c =
-    let args = c .before .before .before .before .before .before .args in
-    let pre = c .before .before .before .before .before .before .pre in
-    let loop = c .before .before .before .loop in
-    let loop-test = c .before .before .loop-test in
-    let four = c .before .four in (
+    let args = c .before .before .before .before .before .args in
+    let pre = c .before .before .before .before .before .pre in
+    let loop = c .before .before .loop in
+    let loop-test = c .before .loop-test in
+    let two = c .two-at in (
       omega arith,
       omega (arith, pre .1, loop .inv .1),
-      loop .inv .2 ∙ laws.pairs-next (args .count) (loop .i) (loop .at) (args .step) (args .to) (args .card .now) (loop .out) (four .result)
-          (c .four2 .result)
-          (loop-test .taken) (omega (arith, pre .3, loop .inv .3)) (four .ensures .0) (c .four2 .ensures .0),
+      loop .inv .2 ∙ laws.pairs-next (args .count) (loop .i) (loop .at) (args .step) (args .to) (args .card .now) (loop .out) (two .result .one)
+          (two .result .two) (loop-test .taken) (omega (arith, pre .3, loop .inv .3)) (two .ensures .0) (two .ensures .1),
       simp length-set (loop .inv .3),
     )
 
@@ -110,9 +99,7 @@ pairs-spec =
     Inv-loop
     μ-loop
     loop-holds
-    four-requires
-    add-four
-    four-requires-2
+    two-at-requires
     mul-out
     add-out
     mul-out-2
