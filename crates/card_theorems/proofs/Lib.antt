@@ -1,2 +1,6 @@
 pub mod Entries
 pub mod Parts
+pub mod Once
+pub mod Files
+pub mod Bounds
+pub mod Built

@@ -31,6 +31,20 @@ pub record Numbers : Type 0 where
   pub lines : List Fill
   pub leaders : List Span
 
+-- left and data of each line
+abbrev pub fillList : List Fill → List ℕ
+fillList [] = []
+fillList (f ∷ fs) = f .left ∷ f .count ∷ fillList fs
+
+-- start and length of each leader entry
+abbrev pub spanList : List Span → List ℕ
+spanList [] = []
+spanList (s ∷ ss) = s .start ∷ s .long ∷ spanList ss
+
+-- all of them in a row: n, L, w, d, the lines, the leader entries
+abbrev pub listed : Numbers → List ℕ
+listed x = x .n ∷ x .l ∷ x .w ∷ x .d ∷ (fillList (x .lines) ++ spanList (x .leaders))
+
 -- ---- the entries
 
 -- kind 1 (16 bytes): n, L, w, d, four bytes each, within document 01's ranges and agreements, with s as 0
