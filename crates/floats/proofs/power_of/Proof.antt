@@ -22,10 +22,16 @@ float-to-bits-t8 : tie.Need-float-to-bits-t8
 float-to-bits-t8 c = fin-no-nan _ (sym (c .before .finite .ensures) ∙ c .if1 .taken)
 
 returns : tie.Need-returns
-returns c = power-yes (c .before .before .before .before .before .args .re) (c .before .before .before .before .before .args .im) (c .before .before .squares-of .result) (cc) (sym (c .before .finite .ensures) ∙ c .if1 .taken)
+returns c =
+    let args = c .before .before .before .before .before .args in
+    let finite = sym (c .before .finite .ensures) ∙ c .if1 .taken in
+    power-yes (args .re) (args .im) (c .before .before .squares-of .result) (cc) finite
 
 returns-2 : tie.Need-returns-2
-returns-2 c = power-no (c .before .before .before .before .before .args .re) (c .before .before .before .before .before .args .im) (c .before .before .squares-of .result) (cc) (sym (c .before .finite .ensures) ∙ c .if1 .left)
+returns-2 c =
+    let args = c .before .before .before .before .before .args in
+    let none = sym (c .before .finite .ensures) ∙ c .if1 .left in
+    power-no (args .re) (args .im) (c .before .before .squares-of .result) (cc) none
 
 pub power-of-spec : {M : Type 1} → statement M
 power-of-spec =

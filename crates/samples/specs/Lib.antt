@@ -1,0 +1,2 @@
+-- The specs of `samples`: a line's samples by what the view shows, and the words of their answers.
+pub mod Samples
