@@ -38,7 +38,8 @@ returns c =
     let sort = sym (c .before .before .before .before .before .before .is-complex .ensures) ∙ c .before .before .before .before .before .if1 .taken in
     let inside = c .before .before .before .before .if2 .taken in
     let place = c .before .before .before .place-of .ensures .0 in
-    let there = laws.power-there (args .v) (args .sort) (args .bytes .now) (args .index) _ _ _ sees sort inside _ place _ (c .before .before .pattern-at .ensures) in
+    let found = c .before .before .pattern-at .ensures in
+    let there = laws.power-there (args .v) (args .sort) (args .bytes .now) (args .index) _ _ _ sees sort inside _ place _ found in
     c .strength .ensures ∙ ap onPower (c .before .power-of .ensures) ∙ there
 
 bare-requires : tie.Need-bare-requires

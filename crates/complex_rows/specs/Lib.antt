@@ -1,0 +1,2 @@
+-- The specs of `complex_rows`: what the complex row copy writes.
+pub mod Parts
