@@ -3,6 +3,7 @@ use Prim.Native.Nat.{ℕ, zero, suc}
 use mathlib.Core.List.{List, [], _∷_}
 use lib.IntN.{ℤ, pos, negsuc}
 use Rattle.words.specs.Answer.{Answer, Word, refused, waiting, paused, complete, begun, value, blank, badly, shown, copied, agrees}
+use Rattle.words.specs.Answer.{counted, patterned, powered}
 use Rattle.c_answer.specs.declared.Reply.{Reply}
 
 -- the tag of each word of document 01; no answer of the boundary is `badly`, which a field's refusal 6 says
@@ -18,6 +19,9 @@ tagFor shown = 7
 tagFor copied = 8
 tagFor agrees = 9
 tagFor badly = 10
+tagFor counted = 12
+tagFor patterned = 13
+tagFor powered = 14
 
 -- a whole number that is not below 0; no answer has a number below 0
 abbrev pub whole : ℤ → ℕ

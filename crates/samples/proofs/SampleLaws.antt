@@ -25,6 +25,7 @@ use Rattle.samples.specs.declared.Powered.{Powered}
 use Rattle.samples.specs.declared.Powered.the-variants as Powered
 use Rattle.samples.specs.Samples.{isComplex, groupOf, clipped, placeIn, patternAt, standsAt, patternedBy, floated, sampledBy}
 use Rattle.samples.specs.Samples.{onPower, poweredBy, bitsOf, noNan}
+use Rattle.samples.specs.Said.{patternedAs, sampledAs}
 use Rattle.samples.proofs.PlaceLaws.{pattern-clipped, stands-clipped}
 
 -- ---- the view's own
@@ -104,3 +105,7 @@ module _ (bs : List ℕ) (bytes : (i : ℕ) → byteAt bs i < 256) where
       go false h = refl
   sample-kept (View.Wait n) sort i h = refl
   sample-kept (View.Refused r) sort i h = refl
+
+  -- so both readers say the same of it
+  pub same-said : (v : View) (sort i : ℕ) → noNan (patternedBy v sort bs i) ≡ true → sampledAs (sampledBy v sort bs i) ≡ patternedAs (patternedBy v sort bs i)
+  same-said v sort i h = ap patternedAs (sample-kept v sort i h)
