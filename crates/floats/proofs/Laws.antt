@@ -3,10 +3,11 @@ use mathlib.Core.Path.{_≡_, refl, sym, _∙_, subst}
 use mathlib.Core.Bool.{Bool, true, false, not, false≢true, true≢false}
 use Prim.Native.Nat.{ℕ, _%_, _<_, _≤_}
 use native.Mathlib.Nat.{not-le-of-lt}
+use native.Mathlib.Omega.{arith}
 use lib.Dec.{T, ltb, lt→ltb, ltb→lt, not-T}
 use lib.Ieee.{Float, nan, inf, fin, binary32, add, mul, div, neg, lt, isNan, nanBits, ofBits, toBits}
 use lib.Ieee.Bits.{is-true, toBits-ofBits, nanBits-is, nanBits-above}
-use Rattle.words.specs.Tests.{bothOf}
+use Rattle.words.specs.Tests.{pick, bothOf}
 use Rattle.floats.specs.Floats.{floatOf, finiteOf, squares, allFinite, powerOf}
 use Rattle.floats.specs.declared.Power.{Power}
 use Rattle.floats.specs.declared.Power.the-variants.{Bits, NotFinite}
@@ -124,3 +125,20 @@ module _ (re im : ℕ) (p : Float) (is : p ≡ squares (floatOf re) (floatOf im)
   pub power-no : finiteOf p ≡ false → NotFinite ≡ powerOf re im
   unfolding powerOf allFinite
   power-no h = rw (last-no (finiteOf (floatOf re)) (finiteOf (floatOf im)) (finiteOf (squares (floatOf re) (floatOf im))) (rw is at h))
+
+-- ---- there is no power exactly where a part or the power is not finite
+
+bits≢none : (n : ℕ) → _≡_ {A = Power} (Bits n) NotFinite → ⊥
+bits≢none n e = let z : _≡_ {A = ℕ} 0 1 = cc in omega arith
+
+pub none-why : (re im : ℕ) → powerOf re im ≡ NotFinite → allFinite (floatOf re) (floatOf im) ≡ false
+unfolding powerOf
+none-why re im e = go (allFinite (floatOf re) (floatOf im)) e
+  where
+    go : (b : Bool) → pick b (Bits (toBits binary32 (squares (floatOf re) (floatOf im)))) NotFinite ≡ NotFinite → b ≡ false
+    go true e = absurd (bits≢none _ e)
+    go false e = refl
+
+pub why-none : (re im : ℕ) → allFinite (floatOf re) (floatOf im) ≡ false → powerOf re im ≡ NotFinite
+unfolding powerOf
+why-none re im h = simp h

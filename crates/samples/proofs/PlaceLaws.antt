@@ -1,5 +1,5 @@
 -- Where a sample stands: a place behind the bytes is clipped to their end, and reads the same there.
-use Prim.Native.Nat.{ℕ, _+_, _*_, _≤_}
+use Prim.Native.Nat.{ℕ, _+_, _*_, _≤_, _<_}
 use mathlib.Core.Path.{_≡_, refl, sym, ap, _∙_}
 use mathlib.Core.List.{List}
 use mathlib.Core.Bool.{Bool, true, false}
@@ -13,7 +13,7 @@ use Rattle.words.proofs.Laws.{two-none, four-none}
 use Rattle.samples.specs.declared.Pattern.{Pattern}
 use Rattle.samples.specs.declared.Patterned.{Patterned}
 use Rattle.samples.specs.declared.Patterned.the-variants as Patterned
-use Rattle.samples.specs.Samples.{isComplex, groupOf, clipped, patternAt, standsAt}
+use Rattle.samples.specs.Samples.{isComplex, groupOf, placeIn, clipped, patternAt, standsAt}
 
 -- ---- bytes a sample
 
@@ -73,3 +73,13 @@ module _ (bs : List ℕ) (at : ℕ) where
   stands-clipped sort =
       ap (λ (p : Pattern). pick (isComplex sort) (Patterned.Complex p) (Patterned.Count (twoAt bs (clipped (length bs) at)))) pattern-clipped
       ∙ ap (λ (n : ℕ). pick (isComplex sort) (Patterned.Complex (patternAt bs at)) (Patterned.Count n)) count-clipped
+
+-- ---- where the line's data pixels lie within the bytes, each sample does: no byte of it is made up
+
+pub sample-inside : (bs : List ℕ) (start count sort i : ℕ) → start + groupOf sort * count ≤ length bs → i < count
+    → placeIn start sort i + groupOf sort ≤ length bs
+sample-inside bs start count sort i h l = go (isComplex sort) h
+  where
+    go : (b : Bool) → start + pick b 8 2 * count ≤ length bs → start + pick b 8 2 * i + pick b 8 2 ≤ length bs
+    go true h = omega arith
+    go false h = omega arith
