@@ -1,13 +1,15 @@
 -- The row's start, number by number: one more at a time, two a sample; and what a copy leaves of the row behind them.
 use Prim.Native.Nat.{ℕ, zero, suc, _+_, _*_, _≤_, _<_}
-use mathlib.Core.Path.{_≡_, refl, sym, ap, _∙_}
+use mathlib.Core.Path.{_≡_, refl, sym, ap, ap₂, _∙_}
 use mathlib.Core.List.{List, [], _∷_, _++_}
 use mathlib.Core.Bool.{true, false}
 use native.Mathlib.Omega.{arith}
 use native.Mathlib.Nat.{add-zero}
+use lib.Dec.{ltb}
 use lib.ListN.{length, getD, set, drop}
 use lib.Seq.{set-at, drop-cons, append-snoc}
 use borrow.Author.Tests.{lt-ltb, le-ltb}
+use Rattle.words.specs.Tests.{pick}
 use Rattle.words.specs.Words.{fourAt}
 use Rattle.words.specs.Answer.{bareRefusal}
 use Rattle.words.specs.declared.Refusal.{Refusal}
@@ -15,6 +17,7 @@ use Rattle.lines.specs.declared.View.{View}
 use Rattle.lines.specs.declared.View.the-variants.{Shown, Wait, Refused}
 use Rattle.copies.specs.declared.Copied.the-variants.{Done, Wait as Wait′, Refused as Refused′}
 use Rattle.samples.specs.Samples.{isComplex, patternAt, placeIn}
+use Rattle.samples.proofs.StayLaws.{four-stays}
 use Rattle.complex_rows.specs.Parts.{fours, parts, partsCopiedBy, partsRowBy}
 
 -- ---- numbers of four bytes, one more at a time
@@ -79,6 +82,19 @@ part-imaginary bs at (suc n) (suc i) h =
     ap (λ (k : ℕ). getD (fourAt bs at ∷ fourAt bs (at + 4) ∷ parts bs (at + 8) n) k 0) (let e : 2 * suc i + 1 ≡ suc (suc (2 * i + 1)) = omega arith in e)
     ∙ part-imaginary bs (at + 8) n i (omega arith)
     ∙ ap (λ (k : ℕ). fourAt bs (k + 4)) (let e : at + 8 + 8 * i ≡ at + 8 * suc i = omega arith in e)
+
+-- further bytes change no part of samples that lie within the bytes, and so no row
+parts-stay : (bs more : List ℕ) (at n : ℕ) → at + 8 * n ≤ length bs → parts (bs ++ more) at n ≡ parts bs at n
+unfolding parts
+parts-stay bs more at zero h = refl
+parts-stay bs more at (suc n) h =
+    ap₂ (λ (a b : ℕ). a ∷ b ∷ parts (bs ++ more) (at + 8) n) (four-stays bs more at (omega arith)) (four-stays bs more (at + 4) (omega arith))
+    ∙ ap (λ (l : List ℕ). fourAt bs at ∷ fourAt bs (at + 4) ∷ l) (parts-stay bs more (at + 8) n (omega arith))
+
+pub row-stays : (bs more row : List ℕ) (start count left sort : ℕ) → start + 8 * count ≤ length bs
+    → partsRowBy (Shown start count left) sort (bs ++ more) row ≡ partsRowBy (Shown start count left) sort bs row
+row-stays bs more row start count left sort h =
+    ap (λ (l : List ℕ). pick (isComplex sort) (pick (ltb (length row) (2 * count)) row (l ++ drop (2 * count) row)) row) (parts-stay bs more start count h)
 
 -- ---- the copy by what the view shows
 

@@ -1,3 +1,4 @@
 pub mod PlaceLaws
 pub mod SampleLaws
 pub mod RefusalLaws
+pub mod StayLaws
