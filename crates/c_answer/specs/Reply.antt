@@ -3,6 +3,7 @@ use Prim.Native.Nat.{ℕ, zero, suc}
 use mathlib.Core.List.{List, [], _∷_}
 use lib.IntN.{ℤ, pos, negsuc}
 use Rattle.words.specs.Answer.{Answer, Word, refused, waiting, paused, complete, begun, value, blank, badly, shown, copied, agrees, built, card}
+use Rattle.words.specs.Answer.{counted, patterned, powered}
 use Rattle.c_answer.specs.declared.Reply.{Reply}
 
 -- the tag of each word; `badly` has none of its own: no answer of the boundary is that, since a field's refusal 6 says it
@@ -19,6 +20,9 @@ tagFor copied = 8
 tagFor agrees = 9
 tagFor built = 10
 tagFor card = 11
+tagFor counted = 12
+tagFor patterned = 13
+tagFor powered = 14
 tagFor badly = 0
 
 -- a whole number that is not below 0; no answer has a number below 0

@@ -1,0 +1,4 @@
+pub mod PlaceLaws
+pub mod SampleLaws
+pub mod RefusalLaws
+pub mod StayLaws
