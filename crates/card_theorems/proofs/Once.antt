@@ -342,7 +342,7 @@ card-once bs x y c d =
 pos-same : {m n : ℕ} → pos m ≡ pos n → m ≡ n
 pos-same e = cc
 
-refusal-said : (y x : Refusal) → refusedAs y ≡ refusedAs x → y ≡ x
+pub refusal-said : (y x : Refusal) → refusedAs y ≡ refusedAs x → y ≡ x
 refusal-said y x e =
     let ns = ap (λ (a : Answer). a .numbers) e in
     let a : y .number ≡ x .number = pos-same cc in
