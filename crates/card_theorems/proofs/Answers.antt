@@ -26,7 +26,7 @@ use Rattle.walk.proofs.GoodLaws.{ready, fresh-good}
 use Rattle.walk.proofs.KeptLaws.{kept, good-kept, kind-kept}
 use Rattle.turns.specs.declared.Stop.{Stop}
 use Rattle.turns.specs.declared.Stop.the-variants as stop
-use Rattle.cards.specs.Card.{Numbers, Card, listed}
+use Rattle.card_theorems.specs.Card.{Numbers, Card, listed}
 use Rattle.cards.specs.Check.{checkOf, flatOf}
 use Rattle.cards.specs.declared.Checked.the-variants as checked
 use Rattle.card_build.specs.Build.{closed, firstBytes, linesBytes, leadersBytes, cardBytes, cardLong, fittedOf, fittedCard}
@@ -111,8 +111,7 @@ module _ (bs ls : List ℕ) (a : Accepted image bs) (b : Accepted leader ls) whe
       let l : length t ≡ longOf a b = card-long (imagePlan bs) (leaderPlan ls) bs ∙ e in
       let no = le-ltb (length out) (cardLong (imagePlan bs) (leaderPlan ls)) (omega arith) in
       let c : cardOf bs ls out ≡ written out 0 t =
-      card-is out ∙ ap (λ (x : Bool). pick x out (written out 0 t)) no in
-      (
+      card-is out ∙ ap (λ (x : Bool). pick x out (written out 0 t)) no in (
         built-is (length out)
             ∙ ap (λ (x : Bool). pick x (built.Refused (bareRefusal 37)) (built.Bytes (cardLong (imagePlan bs) (leaderPlan ls)))) no
             ∙ ap built.Bytes e,
@@ -143,7 +142,8 @@ module _ (bs ls : List ℕ) (a : Accepted image bs) (b : Accepted leader ls) whe
           (cases (ltb m (cardLong (imagePlan bs) (leaderPlan ls))))
 
   -- the reader of it says as many lines and leader entries as there are, and writes the scene's numbers
-  pub built-read-back : (checkOf (cardBytes (imagePlan bs) (leaderPlan ls) bs) ≡ checked.Card (imagePlan bs .n) (length (sceneOf (imagePlan bs) (leaderPlan ls) bs .leaders)))
+  pub built-read-back : (checkOf (cardBytes (imagePlan bs) (leaderPlan ls) bs) ≡ checked.Card (imagePlan bs .n) (length (sceneOf (imagePlan bs)
+      (leaderPlan ls) bs .leaders)))
       × (flatOf (imagePlan bs .n) (length (sceneOf (imagePlan bs) (leaderPlan ls) bs .leaders)) (cardBytes (imagePlan bs) (leaderPlan ls) bs)
       ≡ listed (sceneOf (imagePlan bs) (leaderPlan ls) bs))
   built-read-back = (card-checked _ _ scene-card, numbers-are _ _ scene-card)

@@ -71,7 +71,8 @@ file kind bs a =
     let few : totalOf (kindNumber kind) p < 17000002 =
     omega (arith, total-small (kindNumber kind) p counts (small-good (kindNumber kind) p good)) in
     let pass = fresh-is kind bs true .1 (enough, f .0) in
-    let some = counted 17000002 (fresh (kindNumber kind)) bs _ _ (walk-pass (fresh (kindNumber kind)) bs true 17000001 (good-fresh kind) pass) (λ z. omega arith) in
+    let some = counted 17000002 (fresh (kindNumber kind)) bs _ _ (walk-pass (fresh (kindNumber kind)) bs true 17000001 (good-fresh kind) pass)
+    (λ z. omega arith) in
     record {
       complete = accepted-complete kind bs 17000002 few a;
       plan = first-walked kind bs true 17000002 some .1 ∙ ap (λ (s : State). s .plan) (next-fresh kind bs);
