@@ -48,7 +48,7 @@ module _ (p q : Plan) (bs out : List ℕ) (long : ℕ) (e : long ≡ cardLong p 
 
 -- ---- the two walks
 
-small-kind : (kind : ℕ) (bs : List ℕ) → 1 ≤ kind → kind ≤ 4 → Small (runCounts kind (closed kind bs .state .plan)) (runLengths kind
+pub small-kind : (kind : ℕ) (bs : List ℕ) → 1 ≤ kind → kind ≤ 4 → Small (runCounts kind (closed kind bs .state .plan)) (runLengths kind
     (closed kind bs .state .plan))
 small-kind kind bs a b =
     subst (λ (i : ℕ). Small (runCounts i (closed kind bs .state .plan)) (runLengths i (closed kind bs .state .plan))) (kind-kept 17000002

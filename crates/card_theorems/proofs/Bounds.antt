@@ -12,7 +12,8 @@ use borrow.Author.Tests.{eqb-true, eqb-false, ltb-true, ltb-false, lt-ltb, le-lt
 use Rattle.words.specs.Tests.{pick, bothOf, withinOf}
 use Rattle.words.proofs.Laws.{both-l, both-r, cases, within-true, pick-true, pick-false}
 use Rattle.plan.specs.Tables.{slotOf}
-use Rattle.plan.specs.Plan.{leader, planGood, leaderGood, slotGood, slotsGood, imageZero?, runCounts, runLengths, firstLength, sumOf, totalOf, spotFrom, spotOf, dueOf}
+use Rattle.plan.specs.Plan.{leader, planGood, leaderGood, slotGood, slotsGood, imageZero?}
+use Rattle.plan.specs.Plan.{runCounts, runLengths, firstLength, sumOf, totalOf, spotFrom, spotOf, dueOf}
 use Rattle.plan.specs.declared.Plan.{Plan}
 use Rattle.plan.specs.declared.Spot.{Spot}
 use Rattle.plan.proofs.Bounds.{slot-each}
@@ -61,7 +62,8 @@ area-most j (c ∷ cs) (l ∷ ls) e r =
     omega (arith, a, area-most (suc j) cs ls (omega arith) (later j c cs l ls r))
 
 -- a record of the runs ends within them
-spot-ends : (i : ℕ) (cs ls : List ℕ) (k at : ℕ) → length cs ≡ length ls → k < sumOf cs → spotFrom i cs ls k at .start + spotFrom i cs ls k at .length ≤ at + area cs ls
+spot-ends : (i : ℕ) (cs ls : List ℕ) (k at : ℕ) → length cs ≡ length ls → k < sumOf cs
+    → spotFrom i cs ls k at .start + spotFrom i cs ls k at .length ≤ at + area cs ls
 unfolding spotFrom sumOf area
 spot-ends i [] ls k at e h = absurd (omega arith)
 spot-ends i (c ∷ cs) [] k at e h = absurd (omega arith)

@@ -17,7 +17,7 @@ use Rattle.plan.specs.Plan.{totalOf, dueOf, planGood, spotOf, imageRanges}
 use Rattle.plan.specs.declared.Plan.{Plan}
 use Rattle.plan.proofs.GoodLaws.{image-within, image-agrees, image-bounds}
 use Rattle.entry.specs.Entry.{concat}
-use Rattle.cards.specs.Card.{Fill, Span, Numbers, First, Line, Leader, Lines, Leaders, Card}
+use Rattle.card_theorems.specs.Card.{Fill, Span, Numbers, First, Line, Leader, Lines, Leaders, Card}
 use Rattle.card_build.specs.Build.{firstBytes, lineBytes, leaderBytes, linesBytes, leadersBytes, cardBytes}
 use Rattle.promises.specs.Rules.{image, leader, Line as RuleLine}
 use Rattle.promises.specs.Newest.{Accepted}
@@ -105,7 +105,8 @@ module _ (bs : List ℕ) (p : Plan) (stands : (k : ℕ) → 1 ≤ k → k ≤ p 
         let q : f ≡ record { left = leftFill (lineRecord p (suc k) bs); count = dataCount (lineRecord p (suc k) bs) } =
         ap₂ (λ (u v : ℕ). record { left = u; count = v }) (sym x) (sym y) in (
           subst (Line (p .w) (suc k) (lineBytes (suc k) (fourAt bs (at + 20)) (fourAt bs (at + 24)))) q
-              (line-written (p .w) (suc k) (fourAt bs (at + 20)) (fourAt bs (at + 24)) (omega arith) (omega (arith, x, s)) (omega (arith, y, s)) (omega (arith, x, y, s))),
+              (line-written (p .w) (suc k) (fourAt bs (at + 20)) (fourAt bs (at + 24)) (omega arith) (omega (arith, x, s)) (omega (arith, y, s)) (omega
+              (arith, x, y, s))),
           lines-written m (suc k) (at + p .l) (omega arith) (a′ a),
         )
       where
@@ -114,7 +115,8 @@ module _ (bs : List ℕ) (p : Plan) (stands : (k : ℕ) → 1 ≤ k → k ≤ p 
 
 -- ---- leader records
 
-leader-written : (k start long : ℕ) → k ≤ 255 → start < 2 ^ 32 → long < 2 ^ 32 → Leader start k (leaderBytes k start long) (record { start = start; long = long })
+leader-written : (k start long : ℕ) → k ≤ 255 → start < 2 ^ 32 → long < 2 ^ 32 → Leader start k (leaderBytes k start long)
+    (record { start = start; long = long })
 unfolding fourAt twoAt
 leader-written k start long a b c =
     record { is = record { size = refl; kind = refl }; ordinal = small; start = back start b; long = back long c; behind = refl }
@@ -135,7 +137,8 @@ leaders-end (suc m) k q =
 module _ (q : Plan) (few : totalOf plan.leader q ≤ 50)
     (early : (k : ℕ) → k < totalOf plan.leader q → dueOf plan.leader q k .start + dueOf plan.leader q k .length < 2 ^ 32)
   where
-    leaders-written : (m k sum : ℕ) → k + m ≡ totalOf plan.leader q → sum ≡ dueOf plan.leader q k .start → Leaders sum (suc k) (leaderEntries m k q) (spansOf q m k)
+    leaders-written : (m k sum : ℕ) → k + m ≡ totalOf plan.leader q → sum ≡ dueOf plan.leader q k .start → Leaders sum (suc k) (leaderEntries m k q)
+        (spansOf q m k)
     unfolding leaderEntries
     leaders-written zero k sum e s = tt
     leaders-written (suc m) k sum e s =

@@ -16,7 +16,7 @@ use Rattle.words.proofs.Laws.{four-bytes, both-l, both-r, both-make, cases, wit
 use Rattle.plan.specs.Plan.{planGood, imageGood, imageRanges, imageAgrees, slotsZero?, allZero}
 use Rattle.plan.specs.declared.Plan.{Plan}
 use Rattle.entry.specs.Entry.{Entry, kindOf, wholeOf}
-use Rattle.cards.specs.Card.{Fill, Span, First, Line, Leader, Kind, Wrong, unknown, cut, order, Missing, IsFirst, IsLine, IsLeader}
+use Rattle.card_theorems.specs.Card.{Fill, Span, First, Line, Leader, Kind, Wrong, unknown, cut, order, Missing, IsFirst, IsLine, IsLeader}
 use Rattle.cards.specs.Check.{bodyOf, faultOf, planFrom, firstHolds, lineHolds, leaderHolds}
 use Rattle.cards.proofs.EntryLaws.{fault-none, fault-unknown, fault-cut, fault-by, passes}
 
@@ -114,7 +114,8 @@ module _ {want body : ℕ} {Is : List ℕ → Type 0} {holds : List ℕ → Bool
               let b : bodyOf (kindOf bs) ≡ body = omega (arith, length-take-le (1 + bodyOf (kindOf bs)) bs (omega arith), s) in
               let i′ = subst (λ (x : ℕ). Is (take (1 + x) bs)) b i in
               let h : 1 + body ≤ length bs = omega arith in
-              both-make _ _ (eq-eqb (kindOf bs) want (sym (kind-cut bs h) ∙ j .kind (take (1 + body) bs) i′)) (whole-cut bs h ∙ j .from (take (1 + body) bs) i′)
+              both-make _ _ (eq-eqb (kindOf bs) want (sym (kind-cut bs h) ∙ j .kind (take (1 + body) bs) i′)) (whole-cut bs h ∙ j .from (take
+              (1 + body) bs) i′)
 
       known : (length bs ≡ 0 → ⊥) → (bodyOf (kindOf bs) ≡ 0 → ⊥) → Wrong Is bs m
       known n k =

@@ -22,7 +22,8 @@ use Rattle.promises.specs.Newest.{First, promised, Accepted}
 use Rattle.promises.specs.Edition.{newest}
 use Rattle.promises.proofs.AnyEdition.{first-size, same-promised}
 use Rattle.promises.proofs.FirstIs.{first-names, first-is}
-use Rattle.promises.proofs.Accepts.{good-fresh, planned, plan-good, plan-counts, plan-lengths, next-fresh, fresh-is, accepted-complete}
+use Rattle.promises.proofs.Accepts.{good-fresh, planned, plan-good, plan-counts, plan-lengths, next-fresh, fresh-is, follow-length, accepted-complete}
+use Rattle.promises.proofs.LaterIs.{promised-length}
 use Rattle.promises.proofs.PlanNamed.{first-walked}
 
 -- what the closed walk of an accepted file has
@@ -36,6 +37,23 @@ pub record File (kind : Kind) (bs : List ℕ) : Type 0 where
 
 counted : (n : ℕ) (st : State) (bs : List ℕ) (w v : Walked) → w ≡ v → (v .count ≡ 0 → ⊥) → w .count ≡ 0 → ⊥
 counted n st bs w v e h z = h (ap (λ (x : Walked). x .count) (sym e) ∙ z)
+
+-- as many records follow as the plan that it names promises
+pub records : (kind : Kind) (bs : List ℕ) (a : Accepted kind bs) → suc (length (a .rest)) ≡ totalOf (kindNumber kind) (planned kind bs)
+records kind bs a =
+    let l : ℕ = firstLength (kindNumber kind) in
+    let p : Plan = planned kind bs in
+    let size = first-size newest kind (a .plan) (a .first) (a .begins) in
+    let t : take l bs ≡ a .first = ap (take l) (sym (a .are)) ∙ take-at (a .first) (concat (a .rest)) l size in
+    let begins : First kind (take l bs) (a .plan) = subst (λ (r : List ℕ). First kind r (a .plan)) (sym t) (a .begins) in
+    let f = first-names kind zeroPlan (a .plan) (take l bs) (ap length t ∙ size) .1 begins in
+    let same : promised kind p ≡ promised kind (a .plan) = same-promised newest kind p (a .plan) (f .1) in
+    omega (
+      arith,
+      follow-length 1 (promised kind (a .plan)) (a .rest) (a .follows),
+      ap length same,
+      promised-length kind p (plan-counts kind (take l bs)) (plan-lengths kind (take l bs)),
+    )
 
 pub file : (kind : Kind) (bs : List ℕ) → Accepted kind bs → File kind bs
 file kind bs a =
@@ -53,7 +71,8 @@ file kind bs a =
     let few : totalOf (kindNumber kind) p < 17000002 =
     omega (arith, total-small (kindNumber kind) p counts (small-good (kindNumber kind) p good)) in
     let pass = fresh-is kind bs true .1 (enough, f .0) in
-    let some = counted 17000002 (fresh (kindNumber kind)) bs _ _ (walk-pass (fresh (kindNumber kind)) bs true 17000001 (good-fresh kind) pass) (λ z. omega arith) in
+    let some = counted 17000002 (fresh (kindNumber kind)) bs _ _ (walk-pass (fresh (kindNumber kind)) bs true 17000001 (good-fresh kind) pass)
+    (λ z. omega arith) in
     record {
       complete = accepted-complete kind bs 17000002 few a;
       plan = first-walked kind bs true 17000002 some .1 ∙ ap (λ (s : State). s .plan) (next-fresh kind bs);

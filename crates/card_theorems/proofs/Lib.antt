@@ -4,3 +4,5 @@ pub mod Once
 pub mod Files
 pub mod Bounds
 pub mod Built
+pub mod Answers
+pub mod Refusing

@@ -13,8 +13,8 @@ use Rattle.words.specs.Answer.{Answer, refusalAt, refusedAs}
 use Rattle.words.specs.declared.Refusal.{Refusal}
 use Rattle.words.proofs.Laws.{four-bytes}
 use Rattle.entry.specs.Entry.{concat}
-use Rattle.cards.specs.Card.{Fill, Span, Numbers, First, Lines, Leaders, Card, Missing, Wrong, IsFirst, IsLine, IsLeader}
-use Rattle.cards.specs.Card.{longs, fillList, spanList, listed, CardRefuses, first, line, leader}
+use Rattle.card_theorems.specs.Card.{Fill, Span, Numbers, First, Lines, Leaders, Card, Missing, Wrong, IsFirst, IsLine, IsLeader}
+use Rattle.card_theorems.specs.Card.{longs, fillList, spanList, listed, CardRefuses, first, line, leader}
 use Rattle.cards.specs.Check.{faultOf, judged, refusedWith, firstHolds, linesOf, leadersOf, behindLines, checkBehind, checkOf, pairsFrom, flatOf}
 use Rattle.cards.specs.Said.{checkedAs}
 use Rattle.cards.specs.declared.Checked.{Checked}
@@ -53,7 +53,8 @@ module _ (r rest : List ℕ) (n l w d : ℕ) (f : First r n l w d) where
       ∙ ap (λ (x : List ℕ). behindLines (linesOf (fourAt (r ++ rest) 1) 0 (fourAt (r ++ rest) 9) 17 x)
       (leadersOf (length (r ++ rest)) (fourAt (r ++ rest) 1) 0 0 (17 + 13 * fourAt (r ++ rest) 1) (drop (17 + 13 * fourAt (r ++ rest) 1) (r ++ rest))))
       (drop-at r rest 17 (f .is .size))
-      ∙ ap₂ (λ (a b : ℕ). behindLines (linesOf a 0 b 17 rest) (leadersOf (length (r ++ rest)) a 0 0 (17 + 13 * a) (drop (17 + 13 * a) (r ++ rest)))) says-lines
+      ∙ ap₂ (λ (a b : ℕ). behindLines (linesOf a 0 b 17 rest) (leadersOf (length (r ++ rest)) a 0 0 (17 + 13 * a) (drop (17 + 13 * a)
+      (r ++ rest)))) says-lines
       says-pixels
 
 -- the lines as well
@@ -65,7 +66,8 @@ module _ (r : List ℕ) (n l w d : ℕ) (rs : List (List ℕ)) (fs : List Fill) 
       let e : n ≡ length fs + suc j = omega arith in
       let s = f .is .size in
       check-first r (concat rs ++ left) n l w d f
-      ∙ ap (λ (x : Checked). behindLines x (leadersOf (length (r ++ (concat rs ++ left))) n 0 0 (17 + 13 * n) (drop (17 + 13 * n) (r ++ (concat rs ++ left)))))
+      ∙ ap (λ (x : Checked). behindLines x (leadersOf (length (r ++ (concat rs ++ left))) n 0 0 (17 + 13 * n) (drop (17 + 13 * n) (r ++
+      (concat rs ++ left)))))
       (lines-pass w 0 17 n (suc j) rs fs left e ls
       ∙ ap (λ (i : ℕ). linesOf (suc j) i w (17 + length (concat rs)) left) (let q : 0 + length fs ≡ length fs = omega arith in q)
       ∙ lines-refuse w (length fs) (17 + length (concat rs)) j m left g)
@@ -78,7 +80,8 @@ module _ (r : List ℕ) (n l w d : ℕ) (rs : List (List ℕ)) (fs : List Fill) 
       let e : n ≡ length fs + 0 = omega arith in
       let at : length (r ++ concat rs) ≡ 17 + 13 * n = length-append r (concat rs) ∙ (omega arith) in
       check-first r (concat rs ++ left) n l w d f
-      ∙ ap (λ (x : Checked). behindLines x (leadersOf (length (r ++ (concat rs ++ left))) n 0 0 (17 + 13 * n) (drop (17 + 13 * n) (r ++ (concat rs ++ left)))))
+      ∙ ap (λ (x : Checked). behindLines x (leadersOf (length (r ++ (concat rs ++ left))) n 0 0 (17 + 13 * n) (drop (17 + 13 * n) (r ++
+      (concat rs ++ left)))))
       (lines-pass w 0 17 n 0 rs fs left e ls ∙ lines-none (0 + length fs) w (17 + length (concat rs)) left)
       ∙ ap (leadersOf (length (r ++ (concat rs ++ left))) n 0 0 (17 + 13 * n))
       (ap (drop (17 + 13 * n)) (sym (append-assoc r (concat rs) left)) ∙ drop-at (r ++ concat rs) left (17 + 13 * n) at)
@@ -89,7 +92,8 @@ module _ (r : List ℕ) (n l w d : ℕ) (rs : List (List ℕ)) (fs : List Fill) 
 pub card-checked : (bs : List ℕ) (x : Numbers) → Card bs x → checkOf bs ≡ checked.Card (x .n) (length (x .leaders))
 card-checked bs x c =
     let rest : List ℕ = concat (c .leaders) ++ [] in
-    let e : c .first ++ (concat (c .lines) ++ rest) ≡ bs = ap (λ (y : List ℕ). c .first ++ (concat (c .lines) ++ y)) (append-nil (concat (c .leaders))) ∙ c .are in
+    let e : c .first ++ (concat (c .lines) ++ rest) ≡ bs = ap (λ (y : List ℕ). c .first ++ (concat (c .lines) ++ y)) (append-nil (concat (c .leaders)))
+    ∙ c .are in
     let whole = c .first ++ (concat (c .lines) ++ rest) in
     let long : length rest ≤ length whole =
     omega (arith, length-append (c .first) (concat (c .lines) ++ rest), length-append (concat (c .lines)) rest) in
@@ -143,7 +147,8 @@ module _ (bs : List ℕ) where
   Either = ((x : Numbers) × Card bs x) ⊎ ((x : Refusal) × CardRefuses bs x)
 
   module _ (r : List ℕ) (n l w d : ℕ) (f : First r n l w d) where
-    behind-lines : (rs : List (List ℕ)) (fs : List Fill) (rest : List ℕ) → Lines w 1 rs fs → length fs ≡ n → r ++ (concat rs ++ rest) ≡ bs → Told 0 0 rest → Either
+    behind-lines : (rs : List (List ℕ)) (fs : List Fill) (rest : List ℕ) → Lines w 1 rs fs → length fs ≡ n → r ++ (concat rs ++ rest) ≡ bs → Told 0 0 rest
+        → Either
     behind-lines rs fs rest ls h e t =
         let are : r ++ (concat rs ++ (concat (t .entries) ++ t .left)) ≡ bs = ap (λ (y : List ℕ). r ++ (concat rs ++ y)) (t .are) ∙ e in
         ⊎-elim
@@ -291,7 +296,13 @@ numbers-are bs x c =
     sym (c .are) ∙ sym (append-assoc r (concat (c .lines)) (concat (c .leaders))) ∙ ap (λ (y : List ℕ). pre ++ y) (sym (append-nil (concat (c .leaders)))) in
     let b : pairsFrom (length (x .leaders)) (19 + 13 * x .n) 10 bs ≡ spanList (x .leaders) =
     ap₂ (λ (i : ℕ) (y : List ℕ). pairsFrom (length (x .leaders)) i 10 y)
-    (let q : 19 + 13 * x .n ≡ length pre + 2 = omega (arith, length-append r (concat (c .lines)), lines-long (x .w) 1 (c .lines) (x .lines) (c .each), c .every) in q) e
+    (let q : 19 + 13 * x .n ≡ length pre + 2 = omega (
+      arith,
+      length-append r (concat (c .lines)),
+      lines-long (x .w) 1 (c .lines) (x .lines)
+          (c .each),
+      c .every,
+    ) in q) e
     ∙ spans-are 0 1 (c .leaders) (x .leaders) pre [] (c .follow) in
     rw (at 1 (omega arith), at 5 (omega arith), at 9 (omega arith), at 13 (omega arith), f .says-n, f .says-l, f .says-w, f .says-d, a, b)
 
@@ -342,7 +353,7 @@ card-once bs x y c d =
 pos-same : {m n : ℕ} → pos m ≡ pos n → m ≡ n
 pos-same e = cc
 
-refusal-said : (y x : Refusal) → refusedAs y ≡ refusedAs x → y ≡ x
+pub refusal-said : (y x : Refusal) → refusedAs y ≡ refusedAs x → y ≡ x
 refusal-said y x e =
     let ns = ap (λ (a : Answer). a .numbers) e in
     let a : y .number ≡ x .number = pos-same cc in

@@ -14,7 +14,7 @@ use Rattle.words.specs.Words.{fourAt}
 use Rattle.words.specs.Answer.{refusalAt}
 use Rattle.words.proofs.Laws.{cases}
 use Rattle.entry.specs.Entry.{concat}
-use Rattle.cards.specs.Card.{Fill, Span, Lines, Leaders, Wrong, unknown, cut, order, Missing, IsLine, IsLeader, longs}
+use Rattle.card_theorems.specs.Card.{Fill, Span, Lines, Leaders, Wrong, unknown, cut, order, Missing, IsLine, IsLeader, longs}
 use Rattle.cards.specs.Check.{faultOf, judged, refusedWith, lineHolds, leaderHolds, linesOf, leadersOf}
 use Rattle.cards.specs.declared.Checked.{Checked}
 use Rattle.cards.specs.declared.Checked.the-variants.{Card, Refused}
@@ -166,7 +166,8 @@ wrong-some bs m (unknown n h q) = n
 wrong-some bs m (cut b n k s q) = n
 wrong-some bs m (order b k s n q) = omega arith
 
-pub leaders-refuse : (n sum k at j m : ℕ) (left : List ℕ) → length left ≤ j → Wrong (IsLeader sum (suc k)) left m → leadersOf j n k sum at left ≡ refusedWith m at
+pub leaders-refuse : (n sum k at j m : ℕ) (left : List ℕ) → length left ≤ j → Wrong (IsLeader sum (suc k)) left m → leadersOf j n k sum at left
+    ≡ refusedWith m at
 unfolding leadersOf
 leaders-refuse n sum k at zero m left e h = absurd (omega (arith, wrong-some left m h))
 leaders-refuse n sum k at (suc j) m left e h =

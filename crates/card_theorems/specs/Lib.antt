@@ -1,2 +1,4 @@
--- The specs of `card_theorems`: the numbers that a built card is to have.
+-- The specs of `card_theorems`: what a card is and who gets which refusal of its reader; the numbers that a built card is to have, and who is refused one.
+pub mod Card
 pub mod Scene
+pub mod Refused

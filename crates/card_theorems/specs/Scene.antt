@@ -4,7 +4,7 @@ use Prim.Native.Nat.{ℕ, zero, suc}
 use mathlib.Core.List.{List, [], _∷_}
 use Rattle.plan.specs.Plan.{leader, dueOf, totalOf}
 use Rattle.plan.specs.declared.Plan.{Plan}
-use Rattle.cards.specs.Card.{Fill, Span, Numbers}
+use Rattle.card_theorems.specs.Card.{Fill, Span, Numbers}
 use Rattle.promises.specs.Shown.{lineRecord, leftFill, dataCount}
 
 -- left fill and data count of m lines behind k

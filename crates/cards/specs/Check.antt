@@ -1,5 +1,5 @@
--- How the reader judges a card (document 02, No. 1), entry by entry from the front, and the list of numbers that it gives. What a card is stands in `Card`;
--- `card_theorems` shows that the two agree. Assumes nothing.
+-- How the reader judges a card (document 02, No. 1), entry by entry from the front, and the list of numbers that it gives. What a card is stands in
+-- `card_theorems/specs/Card.antt`, and the theorems there show that the two agree. Assumes nothing.
 use Prim.Native.Nat.{ℕ, zero, suc, _+_, _*_, _≤_}
 use mathlib.Core.Path.{_≡_}
 use mathlib.Core.List.{List, [], _∷_, _++_}

@@ -1,4 +1,3 @@
--- The specs of `cards`: what a card is and who gets which refusal, how the reader judges one, and the words of its answers.
-pub mod Card
+-- The specs of `cards`: how the reader judges a card, the list of numbers that it gives, and the words of its answers.
 pub mod Check
 pub mod Said
