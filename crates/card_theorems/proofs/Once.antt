@@ -11,6 +11,7 @@ use lib.Seq.{drop-at, getD-append-add, length-take-le}
 use Rattle.words.specs.Words.{byteAt, fourAt}
 use Rattle.words.specs.Answer.{Answer, refusalAt, refusedAs}
 use Rattle.words.specs.declared.Refusal.{Refusal}
+use Rattle.refusals.proofs.Said.{refusal-said}
 use Rattle.words.proofs.Laws.{four-bytes}
 use Rattle.entry.specs.Entry.{concat}
 use Rattle.card_theorems.specs.Card.{Fill, Span, Numbers, First, Lines, Leaders, Card, Missing, Wrong, IsFirst, IsLine, IsLeader}
@@ -349,18 +350,6 @@ card-once bs x y c d =
     ∙ ap₂ (λ (i : List Fill) (j : List Span). record { n = y .n; l = y .l; w = y .w; d = y .d; lines = i; leaders = j }) (s .0) u
 
 -- ---- in the words of the answer
-
-pos-same : {m n : ℕ} → pos m ≡ pos n → m ≡ n
-pos-same e = cc
-
-pub refusal-said : (y x : Refusal) → refusedAs y ≡ refusedAs x → y ≡ x
-refusal-said y x e =
-    let ns = ap (λ (a : Answer). a .numbers) e in
-    let a : y .number ≡ x .number = pos-same cc in
-    let b : y .«record» ≡ x .«record» = pos-same cc in
-    let c : y .place ≡ x .place = pos-same cc in
-    ap (λ (n : ℕ). record { number = n; «record» = y .«record»; place = y .place }) a
-    ∙ ap₂ (λ (r p : ℕ). record { number = x .number; «record» = r; place = p }) b c
 
 checked-refused : (y : Checked) (x : Refusal) → checkedAs y ≡ refusedAs x → y ≡ checked.Refused x
 checked-refused (checked.Card n k) x e =

@@ -37,7 +37,7 @@ use Rattle.refusals.proofs.Walked.{refused-to, refused-from}
 use Rattle.card_theorems.specs.Refused.{longOf, BuildRefuses, scene, notes, short}
 use Rattle.card_theorems.proofs.Files.{file}
 use Rattle.card_theorems.proofs.Answers.{built-least}
-use Rattle.card_theorems.proofs.Once.{refusal-said}
+use Rattle.refusals.proofs.Said.{refusal-said}
 
 -- ---- the closed walk never pauses
 

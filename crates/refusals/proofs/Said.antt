@@ -27,7 +27,7 @@ pos-same : {m n : ℕ} → pos m ≡ pos n → m ≡ n
 pos-same e = cc
 
 -- two refusals with the same numbers
-refusal-said : (y x : Refusal) → refusedAs y ≡ refusedAs x → y ≡ x
+pub refusal-said : (y x : Refusal) → refusedAs y ≡ refusedAs x → y ≡ x
 refusal-said y x e =
     let ns = ap (λ (a : Answer). a .numbers) e in
     let a : y .number ≡ x .number = pos-same cc in

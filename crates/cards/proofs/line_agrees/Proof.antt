@@ -18,7 +18,9 @@ both-requires : tie.Need-both-requires
 both-requires c κs = search needs
 
 returns : tie.Need-returns
-returns c = c .both .ensures ∙ ap (λ (t : Bool). bothOf t (leb (c .before .before .args .left + c .before .before .args .count) (c .before .before .args .w))) (c .before .is .ensures)
+returns c =
+    let args = c .before .before .args in
+    c .both .ensures ∙ ap (λ (t : Bool). bothOf t (leb (args .left + args .count) (args .w))) (c .before .is .ensures)
 
 pub line-agrees-spec : {M : Type 1} → statement M
 line-agrees-spec = tie.close (tie.spec is-requires add-both both-requires returns)

@@ -34,7 +34,10 @@ line-agrees-requires-2 c κs = search needs
 
 returns-2 : tie.Need-returns-2
 unfolding lineHolds
-returns-2 c = rw (← c .before .four-there3 .ensures .0, ← c .before .before .before .four-there .ensures .0, ← c .before .before .four-there2 .ensures .0) (c .line-agrees2 .ensures)
+returns-2 c =
+    let left = c .before .before .before .four-there in
+    let count = c .before .before .four-there2 in
+    rw (← c .before .four-there3 .ensures .0, ← left .ensures .0, ← count .ensures .0) (c .line-agrees2 .ensures)
 
 pub line-holds-spec : {M : Type 1} → statement M
 line-holds-spec =
