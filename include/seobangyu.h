@@ -8,7 +8,8 @@
  * may be read (written, where it is not const) for that many elements; the arrays of one call do not
  * overlap; a pointer may be NULL only where its length is 0.
  *
- * An array that is too short gives 0, and nothing is written: neither state, value, row nor answer.
+ * An array that is too short gives 0, and nothing is written: neither state, value, row, card, list
+ * nor answer. (A row, card or list that is too short is refused, by its own number.)
  * Numbers past the 42nd of a state, the 5th of an answer and the 2nd of a value stay as they are.
  */
 #ifndef SEOBANGYU_H
