@@ -9,7 +9,7 @@ use lib.IntN.{pos}
 use lib.ListN.{length, take, drop, length-append, take-append-drop}
 use lib.Seq.{drop-at, getD-append-add, length-take-le}
 use Rattle.words.specs.Words.{byteAt, fourAt}
-use Rattle.words.specs.Answer.{Answer, refusalAt, refusedAs}
+use Rattle.words.specs.Answer.{Answer, refusalAt, bareRefusal, refusedAs}
 use Rattle.words.specs.declared.Refusal.{Refusal}
 use Rattle.refusals.proofs.Said.{refusal-said}
 use Rattle.words.proofs.Laws.{four-bytes}
@@ -17,7 +17,11 @@ use Rattle.entry.specs.Entry.{concat}
 use Rattle.card_theorems.specs.Card.{Fill, Span, Numbers, First, Lines, Leaders, Card, Missing, Wrong, IsFirst, IsLine, IsLeader}
 use Rattle.card_theorems.specs.Card.{longs, fillList, spanList, listed, CardRefuses, first, line, leader}
 use Rattle.cards.specs.Check.{faultOf, judged, refusedWith, firstHolds, linesOf, leadersOf, behindLines, checkBehind, checkOf, pairsFrom, flatOf}
+use Rattle.cards.specs.Check.{manyOf, numbersOf, listOf}
 use Rattle.cards.specs.Said.{checkedAs}
+use Rattle.cards.proofs.LoopLaws.{pairs-long}
+use Rattle.cards.proofs.NumbersLaws.{refused-answer, refused-list, short-answer, short-list, card-answer, card-list}
+use Rattle.writing.specs.Writing.{written}
 use Rattle.cards.specs.declared.Checked.{Checked}
 use Rattle.cards.specs.declared.Checked.the-variants as checked
 use Rattle.card_theorems.proofs.Entries.{byte-front, four-front, entry-passes, passes-is, fault-wrong, missing-fault, judges-first}
@@ -361,3 +365,42 @@ checked-refused (checked.Refused y) x e = ap checked.Refused (refusal-said y x e
 pub card-refuses : (bs : List ℕ) (x : Refusal) → (checkedAs (checkOf bs) ≡ refusedAs x) ↔ CardRefuses bs x
 card-refuses bs x =
     (λ e. refuses-exactly bs x .0 (checked-refused (checkOf bs) x e), λ r. ap checkedAs (refuses-exactly bs x .1 r))
+
+-- ---- the list of numbers
+
+listed-long : (bs : List ℕ) (x : Numbers) → Card bs x → length (listed x) ≡ manyOf (x .n) (length (x .leaders))
+unfolding flatOf
+listed-long bs x c =
+    let n : ℕ = x .n in
+    let k : ℕ = length (x .leaders) in
+    let a : List ℕ = pairsFrom 2 1 8 bs in
+    let b : List ℕ = pairsFrom n 22 13 bs in
+    let d : List ℕ = pairsFrom k (19 + 13 * n) 10 bs in
+    let e : length (listed x) ≡ length (a ++ (b ++ d)) = ap length (sym (numbers-are bs x c)) in
+    omega (arith, e, length-append a (b ++ d), length-append b d, pairs-long 2 1 8 bs, pairs-long n 22 13 bs, pairs-long k (19 + 13 * n) 10 bs)
+
+-- a card's numbers are written where the list has room for them, and numbers past them stay; else 37, and all stay
+pub numbers-written : (bs out : List ℕ) (x : Numbers) → Card bs x → length (listed x) ≤ length out
+    → (numbersOf bs (length out) ≡ checked.Card (x .n) (length (x .leaders))) × (listOf bs out ≡ written out 0 (listed x))
+numbers-written bs out x c h =
+    let q = card-checked bs x c in
+    let l : manyOf (x .n) (length (x .leaders)) ≤ length out = omega (arith, listed-long bs x c) in (
+      sym (card-answer bs out (checkOf bs) refl (x .n) (length (x .leaders)) q l),
+      sym (card-list bs out (checkOf bs) refl (x .n) (length (x .leaders)) q l) ∙ ap (written out 0) (numbers-are bs x c),
+    )
+
+pub numbers-short : (bs out : List ℕ) (x : Numbers) → Card bs x → length out < length (listed x)
+    → (numbersOf bs (length out) ≡ checked.Refused (bareRefusal 37)) × (listOf bs out ≡ out)
+numbers-short bs out x c h =
+    let q = card-checked bs x c in
+    let l : length out < manyOf (x .n) (length (x .leaders)) = omega (arith, listed-long bs x c) in (
+      sym (short-answer bs out (checkOf bs) refl (x .n) (length (x .leaders)) q l),
+      sym (short-list bs out (checkOf bs) refl (x .n) (length (x .leaders)) q l),
+    )
+
+-- bytes that are no card: their own refusal, and all stay
+pub numbers-refused : (bs out : List ℕ) (x : Refusal) → CardRefuses bs x
+    → (numbersOf bs (length out) ≡ checked.Refused x) × (listOf bs out ≡ out)
+numbers-refused bs out x r =
+    let q = refuses-checked bs x r in
+    (sym (refused-answer bs out (checkOf bs) refl x q) ∙ q, sym (refused-list bs out (checkOf bs) refl x q))
