@@ -35,13 +35,13 @@ def root(crate: str) -> Path:
 
 
 def opening(crate: str) -> str:
-    """The first sentence of what a crate says of itself."""
+    """The first sentence of what a crate says of itself; a request's number, as No. 1, ends none."""
     said = []
     for line in root(crate).read_text().splitlines():
         if not line.startswith('//') or not line.strip('/ '):
             break
         said.append(line.lstrip('/ ').strip())
-    return re.split(r'(?<=[.])\s', ' '.join(said), maxsplit=1)[0]
+    return re.split(r'(?<=[.])(?<!No[.])\s', ' '.join(said), maxsplit=1)[0]
 
 
 def code(path: Path) -> str:
