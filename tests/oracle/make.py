@@ -679,9 +679,9 @@ def rewrite(rng: random.Random, made: Made, data: bytes) -> bytes:
     return data[: part.place] + text + data[part.place + part.width :] if part.place + part.width <= len(data) else data
 
 
-def reorder(rng: random.Random, made: Made, data: bytes) -> bytes:
-    """A record left out, said twice, or exchanged with another."""
-    pieces = [made.data[begun:ended] for begun, ended in zip(made.starts, made.starts[1:])]
+def reordered(rng: random.Random, data: bytes, starts: Sequence[int]) -> bytes:
+    """A piece left out, said twice, or exchanged with another; the pieces lie between the starts."""
+    pieces = [data[begun:ended] for begun, ended in zip(starts, starts[1:])]
     i, j = rng.randrange(len(pieces)), rng.randrange(len(pieces))
     way = rng.randrange(3)
     if way == 0:
@@ -691,6 +691,11 @@ def reorder(rng: random.Random, made: Made, data: bytes) -> bytes:
     else:
         pieces[i], pieces[j] = pieces[j], pieces[i]
     return b"".join(pieces)
+
+
+def reorder(rng: random.Random, made: Made, data: bytes) -> bytes:
+    """A record left out, said twice, or exchanged with another."""
+    return reordered(rng, made.data, made.starts)
 
 
 def break_rules(rng: random.Random, made: Made, data: bytes) -> bytes:

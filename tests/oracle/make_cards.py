@@ -201,16 +201,7 @@ def _extend(rng: random.Random, made: MadeCard, data: bytes) -> bytes:
 
 def _reorder(rng: random.Random, made: MadeCard, data: bytes) -> bytes:
     """An entry left out, said twice, or exchanged with another."""
-    pieces = [made.data[begun:ended] for begun, ended in zip(made.starts, made.starts[1:])]
-    i, j = rng.randrange(len(pieces)), rng.randrange(len(pieces))
-    way = rng.randrange(3)
-    if way == 0:
-        del pieces[i]
-    elif way == 1:
-        pieces.insert(j, pieces[i])
-    else:
-        pieces[i], pieces[j] = pieces[j], pieces[i]
-    return b"".join(pieces)
+    return make.reordered(rng, made.data, made.starts)
 
 
 def _break_one(rng: random.Random, made: MadeCard, data: bytes) -> bytes:
