@@ -1,4 +1,4 @@
-"""The oracle's cards: document 02, No. 1.
+"""The oracle's cards: document 02, No. 1; and No. 2 for the cards of complex scenes.
 
 Written from the request and, where that leaves something open, from what was decided
 there (docs/DECISIONS.md).  A card is entries of one byte of kind and a body whose length
@@ -10,8 +10,8 @@ from __future__ import annotations
 
 from typing import Iterator, NamedTuple, Optional, Union
 
-from reader import EVERY_RECORD, IMAGE, LEADER, N, D, L, PASSED, W, Answer, Pair, State
-from reader import UP_TO_EIGHT_DIGITS, UP_TO_SIX_DIGITS, begin, line_view, refused, start, walk, _within
+from reader import EVERY_RECORD, IMAGE, LEADER, N, D, L, PASSED, SORTS, W, Answer, Pair, State
+from reader import UP_TO_EIGHT_DIGITS, UP_TO_SIX_DIGITS, begin, line_view, refused, start, walk, _agree, _within
 
 # --------------------------------------------------------------------------
 # Entries
@@ -83,12 +83,15 @@ def _holds(right: bool) -> None:
 
 
 def _scene(kind: int, numbers: list[int]) -> Card:
-    """"once and first"; "01's ranges or agreements (with s as 0)": d = 2w, 192 + d at most L."""
+    """"once and first"; "01's ranges or agreements (with s as 0)": d = 2w, 192 + d at most L.
+
+    No. 2: "a card's kind 1 may hold d = 8w with L at least 412 + d".
+    """
     _holds(kind == SCENE)
     n, length, w, d = numbers
     _holds(_within(n, UP_TO_SIX_DIGITS) and _within(length, UP_TO_SIX_DIGITS))
     _holds(_within(w, UP_TO_EIGHT_DIGITS) and _within(d, UP_TO_EIGHT_DIGITS))
-    _holds(d == 2 * w and 192 + d <= length)
+    _holds(any(_agree(sort, length, w, d, 0) for sort in SORTS.values()))
     return Card(n, length, w, d, [], [])
 
 
@@ -175,11 +178,13 @@ def _said(data: bytes) -> Card:
 
 
 def _agrees(card: Card) -> bool:
-    plan = 1 <= card.n <= 999_999 and 1 <= card.length <= 999_999 and 1 <= card.w <= 99_999_999 and card.d == 2 * card.w
+    plan = 1 <= card.n <= 999_999 and 1 <= card.length <= 999_999 and 1 <= card.w <= 99_999_999 and 1 <= card.d <= 99_999_999
+    counts = card.d == 2 * card.w and card.length >= 192 + card.d
+    complex_samples = card.d == 8 * card.w and card.length >= 412 + card.d
     lines = len(card.lines) == card.n and all(left + shown <= card.w for left, shown in card.lines)
     starts = [sum(length for _, length in card.leaders[:i]) for i in range(len(card.leaders))]
     leaders = len(card.leaders) <= 255 and [begun for begun, _ in card.leaders] == starts
-    return plan and card.d <= 99_999_999 and card.length >= 192 + card.d and lines and leaders
+    return plan and (counts or complex_samples) and lines and leaders
 
 
 def is_card(data: bytes) -> bool:

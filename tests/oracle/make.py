@@ -2,17 +2,19 @@
 
 Everything is drawn from a `random.Random`, so a seed gives the same bytes again.
 Nothing here judges: the makers write what document 01 asks for, and note which bytes
-they wrote as judged parts.  Of the oracle only the layout of the 42 numbers is used.
+they wrote as judged parts.  Of the oracle only the layout of the 43 numbers is used.
 """
 
 from __future__ import annotations
 
 import random
 from dataclasses import dataclass, field
-from typing import Iterator, Optional, Sequence
+from typing import Iterator, Optional, Sequence, Union
 
 from reader import (
     BLANK,
+    COMPLEX,
+    COUNTS,
     D,
     FACILITIES,
     FACILITY_PAIRS,
@@ -25,6 +27,7 @@ from reader import (
     POINTERS,
     S,
     SLOTS,
+    SORT,
     STATE_NUMBERS,
     TRAILER,
     VOLUME,
@@ -36,6 +39,12 @@ from reader import (
 KINDS = (VOLUME, LEADER, IMAGE, TRAILER)
 WIDTH = {"I4": 4, "I6": 6, "I8": 8, "I16": 16, "F8.3": 8, "F16.7": 16, "E20.13": 20}
 PLACES = {"F8.3": 3, "F16.7": 7, "E20.13": 13}
+
+# Of each sort of images: the text at 429, bytes a group, bytes ahead of the pixels, the second code byte of a line.
+TEXT = {COUNTS: b"IU2 ", COMPLEX: b"C*8 "}
+GROUP = {COUNTS: 2, COMPLEX: 8}
+AHEAD = {COUNTS: 192, COMPLEX: 412}
+LINE_CODE = {COUNTS: 11, COMPLEX: 10}
 
 # --------------------------------------------------------------------------
 # Spellings of numbers
@@ -151,10 +160,13 @@ class Part:
     blank_is_zero: bool = False
 
 
+Sample = Union[int, tuple[int, int]]  # a count, or the patterns of real and imaginary part
+
+
 @dataclass(frozen=True)
 class Line:
     left: int
-    pixels: tuple[int, ...]
+    pixels: tuple[Sample, ...]
     right: int
 
 
@@ -185,6 +197,13 @@ class Made:
     def record_at(self, place: int) -> int:
         """The ordinal of the record that the place lies in; one past the last at the end."""
         return sum(1 for begun in self.starts if begun <= place)
+
+
+def sample_bytes(sample: Sample) -> bytes:
+    """A count of two bytes, or two patterns of four; high byte first."""
+    if isinstance(sample, int):
+        return sample.to_bytes(2, "big")
+    return b"".join(pattern.to_bytes(4, "big") for pattern in sample)
 
 
 class Maker:
@@ -240,9 +259,9 @@ class Maker:
         for byte, width in ((13, 4), (17, 4), (21, 12)):
             self._note("line", byte, width)
 
-    def pixels(self, offset: int, pixels: Sequence[int]) -> None:
-        """Two bytes a sample, high byte first, at so many bytes into the record."""
-        self._write(1 + offset, b"".join(pixel.to_bytes(2, "big") for pixel in pixels))
+    def pixels(self, offset: int, pixels: Sequence[Sample]) -> None:
+        """At so many bytes into the record."""
+        self._write(1 + offset, b"".join(map(sample_bytes, pixels)))
 
     def _write(self, byte: int, text: bytes) -> None:
         place = self.begun + byte - 1
@@ -325,13 +344,19 @@ def make_leader(rng: random.Random, plan: State) -> Made:
 
 
 def image_first(maker: Maker, plan: State) -> None:
-    """The first record that writes these plan numbers, whether the rules allow them or not."""
+    """The first record that writes these plan numbers, whether the rules allow them or not.
+
+    ValueError for a sort that no text names.
+    """
+    if plan[SORT] not in TEXT:
+        raise ValueError(f"there is no sort {plan[SORT]}")
+    group = GROUP[plan[SORT]]
     maker.record((50, 192, 18, 18), 720)
     maker.text(13, b"A ")
-    maker.text(429, b"IU2 ")
+    maker.text(429, TEXT[plan[SORT]])
     maker.number(181, "I6", plan[N], 1, 999_999)
     maker.number(187, "I6", plan[L], 1, 999_999)
-    maker.number(225, "I4", 2, 2, 2)
+    maker.number(225, "I4", group, group, group)
     maker.number(233, "I4", 1, 1, 1)
     maker.number(237, "I8", plan[N], 1, 99_999_999)
     maker.number(249, "I8", plan[W], 1, 99_999_999)
@@ -345,16 +370,40 @@ def random_fills(rng: random.Random, w: int) -> tuple[int, int, int]:
     return first, second - first, w - second
 
 
-def make_image(rng: random.Random, plan: State, fills: Optional[Sequence[tuple[int, int, int]]] = None) -> Made:
+# Patterns of 32 bits: zeros, the least and the greatest, ones, infinities, NaNs with and without the quiet bit.
+PATTERNS = (0, 1, 0x007FFFFF, 0x00800000, 0x1A000000, 0x3F800000, 0x3F800001, 0x40490FDB, 0x5F7FFFFF, 0x5F800000, 0x7F7FFFFF)
+PATTERNS += (0x7F800000, 0x7F800001, 0x7FBFFFFF, 0x7FC00000, 0x7FC12345, 0x7FFFFFFF)
+NEAR_ONE = 0x3F800000  # its power, and a sum of two, stay finite and normal
+
+
+def random_pattern(rng: random.Random) -> int:
+    """Mostly one whose power is finite; now and then any, and any sign."""
+    some = NEAR_ONE + rng.randrange(-(2**28), 2**28)
+    return rng.choice((some, some, some, rng.choice(PATTERNS), rng.randrange(2**31))) ^ rng.choice((0, 2**31))
+
+
+def random_sample(rng: random.Random, sort: int) -> Sample:
+    if sort == COMPLEX:
+        return random_pattern(rng), random_pattern(rng)
+    return rng.choice((0, 513, 65_535, rng.randrange(65_536)))
+
+
+Fills = tuple[int, int, int]  # left, data, right
+Pixels = Sequence[Sequence[Sample]]
+
+
+def make_image(rng: random.Random, plan: State, fills: Optional[Sequence[Fills]] = None, pixels: Optional[Pixels] = None) -> Made:
+    """With these fills and data pixels of each line, or drawn ones."""
     maker = Maker(rng, plan)
     image_first(maker, plan)
+    sort = plan[SORT]
     for line in range(1, plan[N] + 1):
         left, shown, right = fills[line - 1] if fills else random_fills(rng, plan[W])
-        maker.record((50, 11, 18, 20), plan[L])
+        maker.record((50, LINE_CODE[sort], 18, 20), plan[L])
         maker.line_parts(line, (left, shown, right))
-        pixels = tuple(rng.choice((0, 513, 65_535, rng.randrange(65_536))) for _ in range(shown))
-        maker.pixels(plan[L] - plan[S] - plan[D] + 2 * left, pixels)
-        maker.made.lines.append(Line(left, pixels, right))
+        samples = tuple(pixels[line - 1] if pixels else (random_sample(rng, sort) for _ in range(shown)))
+        maker.pixels(plan[L] - plan[S] - plan[D] + GROUP[sort] * left, samples)
+        maker.made.lines.append(Line(left, samples, right))
     return maker.done()
 
 
@@ -440,10 +489,15 @@ def leader_shape(rng: random.Random, slots: int, facilities: int, most: int = 3)
     return leader_plan(pairs, some)
 
 
-def image_plan(n: int, w: int, s: int, length: Optional[int] = None) -> State:
+def least_length(sort: int, w: int, s: int) -> int:
+    """The least record length of a line of w pixels."""
+    return AHEAD[sort] + GROUP[sort] * w + s
+
+
+def image_plan(n: int, w: int, s: int, length: Optional[int] = None, sort: int = COUNTS) -> State:
     plan = _empty_plan(IMAGE)
-    plan[N], plan[W], plan[D], plan[S] = n, w, 2 * w, s
-    plan[L] = 192 + 2 * w + s if length is None else length
+    plan[N], plan[W], plan[D], plan[S], plan[SORT] = n, w, GROUP[sort] * w, s, sort
+    plan[L] = least_length(sort, w, s) if length is None else length
     return plan
 
 
@@ -458,9 +512,18 @@ def random_plan(rng: random.Random, kind: int) -> State:
     if kind == LEADER:
         return leader_shape(rng, rng.randrange(32), rng.choice((0, 2047, rng.randrange(2048))), rng.choice((1, 3, 9)))
     if kind == IMAGE:
-        w, s = rng.choice((1, rng.randint(1, 12))), rng.choice((0, rng.randint(0, 20)))
-        return image_plan(rng.randint(1, 5), w, s, 192 + 2 * w + s + rng.choice((0, 1, rng.randint(0, 40))))
+        return random_image_plan(rng, rng.choice((COUNTS, COMPLEX)))
     return trailer_plan()
+
+
+def random_image_plan(rng: random.Random, sort: int) -> State:
+    w, s = rng.choice((1, rng.randint(1, 12))), rng.choice((0, rng.randint(0, 20)))
+    more = rng.choice((0, 1, rng.randint(0, 40)))
+    return image_plan(rng.randint(1, 5), w, s, least_length(sort, w, s) + more, sort)
+
+
+def random_image(rng: random.Random, sort: int) -> Made:
+    return make_image(rng, random_image_plan(rng, sort))
 
 
 def random_file(rng: random.Random, kind: Optional[int] = None) -> Made:
@@ -568,20 +631,49 @@ def _agreement_breaks(rng: random.Random, made: Made) -> Iterator[Break]:
     if made.kind != IMAGE:
         return
     plan, rank, refusal = made.plan, (1, BODY, AGREEMENTS), ("refused", 8, 1, 0)
+    least = least_length(plan[SORT], plan[W], plan[S])
     for name, byte, width, value in (
         ("lines n", 181, 6, plan[N] + 1),
         ("lines again", 237, 8, plan[N] + 2),
         ("w", 249, 8, plan[W] + 1),
         ("d odd", 281, 8, plan[D] + 1),
-        ("L = 191 + d + s", 187, 6, 191 + plan[D] + plan[S]),
-        ("s too long", 289, 4, plan[L] - 192 - plan[D] + 1),
+        ("d of the other sort", 281, 8, GROUP[_other_sort(plan)] * plan[W]),
+        ("L one too small", 187, 6, least - 1),
+        ("s too long", 289, 4, plan[S] + plan[L] - least + 1),
     ):
         yield Break(f"agreement {name}", rank, refusal, byte - 1, spell_whole(rng, value, width))
 
 
+def _other_sort(plan: State) -> int:
+    return COUNTS if plan[SORT] == COMPLEX else COMPLEX
+
+
+# Texts that name no sort: other data types of the sources' style, in lower case, with the blank elsewhere.
+OTHER_TEXTS = (b"C*8b", b"C*8\0", b"c*8 ", b" C*8", b"C*4 ", b"C*16", b"C8* ", b"I*2 ", b"IU2b", b"iu2 ", b" IU2", b"IU1 ", b"IS2 ", b"    ")
+
+
+def _sort_breaks(rng: random.Random, made: Made) -> Iterator[Break]:
+    """Text and group of an image, and its lines' code, as no sort or the other one has them."""
+    if made.kind != IMAGE:
+        return
+    other, texts = _other_sort(made.plan), (1, BODY, TEXTS, 428)
+    no_sort, group = ("refused", 8, 1, 428), ("refused", 7, 1, 224)
+    for text in rng.sample(OTHER_TEXTS, 4):
+        yield Break(f"text {text!r}", texts, no_sort, 428, text)
+    rank = (1, BODY, NUMBERS, 224)
+    spelt = spell_whole(rng, GROUP[other], 4)
+    yield Break("the other sort's text", rank, group, 428, TEXT[other])
+    yield Break("the other sort's group", rank, group, 224, spelt)
+    both = spelt + made.data[228:428] + TEXT[other]
+    yield Break("the other sort's text and group", (1, BODY, AGREEMENTS), ("refused", 8, 1, 0), 224, both)
+    for record, begun in enumerate(made.starts[1:-1], start=2):
+        refusal = ("refused", 4, record, begun + 4)
+        yield Break("the other sort's line code", (record, HEADER, 4), refusal, begun + 5, bytes((LINE_CODE[other],)))
+
+
 def breaks(rng: random.Random, made: Made) -> list[Break]:
     """Every rule of the file broken, one at a time."""
-    found = list(_agreement_breaks(rng, made))
+    found = [*_agreement_breaks(rng, made), *_sort_breaks(rng, made)]
     for part in made.parts:
         if part.sort in ("sequence", "codes", "length"):
             found += _header_breaks(rng, made, part)
@@ -693,6 +785,18 @@ def reordered(rng: random.Random, data: bytes, starts: Sequence[int]) -> bytes:
     return b"".join(pieces)
 
 
+def change_sort(rng: random.Random, made: Made, data: bytes) -> bytes:
+    """Some of what the other sort of an image writes: its text, group, d, and the code of a line."""
+    if made.kind != IMAGE:
+        return data
+    other, begun = _other_sort(made.plan), made.starts[rng.randrange(1, made.records)]
+    d = spell_whole(rng, GROUP[other] * made.plan[W], 8)
+    for place, text in ((428, TEXT[other]), (224, spell_whole(rng, GROUP[other], 4)), (280, d), (begun + 5, bytes((LINE_CODE[other],)))):
+        if place + len(text) <= len(data) and rng.random() < 0.7:
+            data = data[:place] + text + data[place + len(text) :]
+    return data
+
+
 def reorder(rng: random.Random, made: Made, data: bytes) -> bytes:
     """A record left out, said twice, or exchanged with another."""
     return reordered(rng, made.data, made.starts)
@@ -704,7 +808,7 @@ def break_rules(rng: random.Random, made: Made, data: bytes) -> bytes:
     return apply(data, *(one for one in chosen if one.place + len(one.patch) <= len(data)))
 
 
-DAMAGES = (flip, flip_judged, flip_judged, cut, extend, change_header, rewrite, rewrite, reorder, break_rules)
+DAMAGES = (flip, flip_judged, flip_judged, cut, extend, change_header, rewrite, rewrite, reorder, change_sort, break_rules)
 
 
 def damage(rng: random.Random, made: Made) -> bytes:
@@ -719,7 +823,7 @@ def damage(rng: random.Random, made: Made) -> bytes:
 # States, good and bad
 # --------------------------------------------------------------------------
 
-EDGES = (0, 1, 2, 3, 6, 7, 9, 10, 11, 12, 191, 192, 194, 1619, 1620, 1621, 4095, 4096, 4097, 9_999, 10_000)
+EDGES = (0, 1, 2, 3, 6, 7, 8, 9, 10, 11, 12, 191, 192, 194, 411, 412, 420, 1619, 1620, 1621, 4095, 4096, 4097, 9_999, 10_000)
 EDGES += (999_999, 1_000_000, 99_999_999, 100_000_000, 2**32 - 1, 2**32, 2**63, 2**64 - 192, 2**64 - 1)
 
 
@@ -732,9 +836,9 @@ def wide_plan(rng: random.Random, kind: int) -> State:
         slots += [rng.choice(((0, 0), (_some(rng, 1, 9), _some(rng, 12, 999_999)))) for _ in range(4)]
         return leader_plan(slots, [rng.choice(((0, 0), (1, _some(rng, 12, 99_999_999)))) for _ in range(11)])
     if kind == IMAGE:
-        s = _some(rng, 0, 9_999)
-        w = _some(rng, 1, (999_999 - 192 - s) // 2)
-        return image_plan(_some(rng, 1, 999_999), w, s, _some(rng, 192 + 2 * w + s, 999_999))
+        sort, s = rng.choice((COUNTS, COMPLEX)), _some(rng, 0, 9_999)
+        w = _some(rng, 1, (999_999 - AHEAD[sort] - s) // GROUP[sort])
+        return image_plan(_some(rng, 1, 999_999), w, s, _some(rng, least_length(sort, w, s), 999_999), sort)
     return trailer_plan()
 
 

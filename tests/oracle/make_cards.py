@@ -69,9 +69,9 @@ def leader_lengths(rng: random.Random, how_many: int) -> list[int]:
 def card_like(rng: random.Random, n: int, leaders: int) -> MadeCard:
     """A card of so many lines and leader entries, with a scene of any size."""
     plan = make.wide_plan(rng, make.IMAGE)
-    w, length = plan[make.W], plan[make.L]
+    w, length, d = plan[make.W], plan[make.L], plan[make.D]
     lines = [_fills(rng, w) for _ in range(n)]
-    return made_card(Card(n, length, w, 2 * w, lines, leader_places(leader_lengths(rng, leaders))))
+    return made_card(Card(n, length, w, d, lines, leader_places(leader_lengths(rng, leaders))))
 
 
 def random_card(rng: random.Random) -> MadeCard:
@@ -117,12 +117,16 @@ def _scene_numbers(rng: random.Random, card: Card) -> Iterator[tuple[int, ...]]:
     """n, L, w, d outside their ranges, or not in agreement."""
     n, length, w, d = card[:4]
     big = rng.randrange(1_000_000, FOUR)
+    ahead = 192 if d == 2 * w else 412
     yield from ((other, length, w, d) for other in (0, 1_000_000, FOUR - 1, big))
-    yield from ((n, other, w, d) for other in (0, 1_000_000, 191 + d, d, big))
-    yield from ((n, length, w, other) for other in (0, d - 1, d + 1, w, 4 * w, 8 * w, (d + 2**31) % FOUR))
-    yield from ((n, length, other, d) for other in (0, w - 1, w + 1, (w + 2**31) % FOUR))  # 2w wraps to d
+    yield from ((n, other, w, d) for other in (0, 1_000_000, ahead - 1 + d, d, big))
+    yield from ((n, length, w, other) for other in (0, d - 1, d + 1, w, 4 * w, 16 * w, (d + 2**31) % FOUR))
+    yield from ((n, length, other, d) for other in (0, w - 1, w + 1, (w + 2**31) % FOUR))  # 2w and 8w wrap to d
     yield from ((n, length, 0, 0), (n, 999_999, 49_999_999, 99_999_998), (n, 999_999, 50_000_000, 100_000_000))
-    yield (n, 999_999, 2**31, 0)
+    yield from ((n, 999_999, 12_499_999, 99_999_992), (n, 999_999, 12_500_000, 100_000_000))
+    yield from ((n, 999_999, 2**31, 0), (n, 999_999, 2**29, 0))
+    # d of either sort where the record is one byte too short for it, or has the room of the other sort only
+    yield from ((n, 191 + 2 * w, w, 2 * w), (n, 411 + 8 * w, w, 8 * w), (n, 192 + 8 * w, w, 8 * w))
 
 
 def _line_numbers(rng: random.Random, card: Card, line: int) -> Iterator[tuple[int, ...]]:

@@ -1,7 +1,8 @@
 """An independent oracle for the reader of CEOS SAR products.
 
 Written from document 01 (docs/RULES.md) and, where that leaves something open, from
-what was decided there (docs/DECISIONS.md, "Where document 01 is silent").
+what was decided there (docs/DECISIONS.md, "Where document 01 is silent"); the complex
+images are document 02's, No. 2 (their samples: samples.py).
 Rules are quoted in the comments, in the words in which they were first put.  Byte
 numbers start at 1 as in the document and are called `byte`; places start at 0 and are
 called `place`.
@@ -12,7 +13,7 @@ from __future__ import annotations
 import functools
 import re
 from dataclasses import dataclass
-from typing import Callable, Iterator, Optional, Sequence
+from typing import Callable, Iterator, NamedTuple, Optional, Sequence, Union
 
 State = list[int]
 Answer = tuple  # ('word', number, ...): every answer is a tuple led by its word
@@ -125,7 +126,28 @@ def field(data: bytes, number: int) -> Answer:
 
 
 # --------------------------------------------------------------------------
-# The state: 42 plain numbers
+# The sorts of images
+# --------------------------------------------------------------------------
+
+
+@dataclass(frozen=True)
+class Sort:
+    """What an image's text at 429-432 decides."""
+
+    text: bytes
+    group: int  # bytes a group, and of a sample
+    ahead: int  # the bytes before the pixels are no fewer
+    code: int  # the second code byte of its line records
+
+
+COUNTS, COMPLEX = 0, 1  # the plan's sort
+# 01: `IU2b`, 2 bytes a group, d = 2w, 192 + d + s at most L, lines 50,11,18,20.  02, No. 2: "Admit `C*8b` images:
+# 8 bytes a group, d = 8w, line codes 50,10,18,20, at least 412 bytes before the pixels".
+SORTS: dict[int, Sort] = {COUNTS: Sort(b"IU2 ", 2, 192, 11), COMPLEX: Sort(b"C*8 ", 8, 412, 10)}
+
+
+# --------------------------------------------------------------------------
+# The state: 43 plain numbers
 # --------------------------------------------------------------------------
 
 VOLUME, LEADER, IMAGE, TRAILER = 1, 2, 3, 4
@@ -143,7 +165,8 @@ L = N + 1
 W = N + 2
 D = N + 3
 S = N + 4
-STATE_NUMBERS = S + 1
+SORT = N + 5
+STATE_NUMBERS = SORT + 1
 PLAN = 2  # the plan's first number
 
 Pair = tuple[int, int]
@@ -206,6 +229,11 @@ def _good_leader_plan(state: State) -> bool:
     return slots and facilities and state[POINTERS] == 0 and not any(state[N:])
 
 
+def _agree(sort: Sort, length: int, pixels: int, data_bytes: int, suffix: int) -> bool:
+    """"d = 2w; 192 + d + s at most L", and for complex samples d = 8w and 412."""
+    return data_bytes == sort.group * pixels and sort.ahead + data_bytes + suffix <= length
+
+
 def _good_image_plan(state: State) -> bool:
     ranges = (
         _within(state[N], UP_TO_SIX_DIGITS)
@@ -214,8 +242,8 @@ def _good_image_plan(state: State) -> bool:
         and _within(state[D], UP_TO_EIGHT_DIGITS)
         and _within(state[S], SUFFIX_RANGE)
     )
-    agreements = state[D] == 2 * state[W] and 192 + state[D] + state[S] <= state[L]
-    return ranges and agreements and not any(state[PLAN:N])
+    sort = SORTS.get(state[SORT])
+    return ranges and sort is not None and _agree(sort, state[L], state[W], state[D], state[S]) and not any(state[PLAN:N])
 
 
 def _good_trailer_plan(state: State) -> bool:
@@ -376,21 +404,29 @@ def _first_leader(record: bytes, state: State) -> None:
     state[SLOTS:N] = [number for pair in pairs for number in pair]
 
 
+def _sort_of(record: bytes) -> int:
+    """The text at 429-432 decides the sort; another text is 8 at its first byte."""
+    for number, sort in SORTS.items():
+        if record[428:432] == sort.text:
+            return number
+    raise Refuse(8, 428)
+
+
 def _first_image(record: bytes, state: State) -> None:
     _text(record, 13, b"A ")
-    _text(record, 429, b"IU2 ")
+    number = _sort_of(record)
+    sort = SORTS[number]
     lines = _number(record, 181, "I6", UP_TO_SIX_DIGITS)
     length = _number(record, 187, "I6", UP_TO_SIX_DIGITS)
-    _number(record, 225, "I4", (2, 2))
+    _number(record, 225, "I4", (sort.group, sort.group))
     _number(record, 233, "I4", (1, 1))
     lines_again = _number(record, 237, "I8", UP_TO_EIGHT_DIGITS)
     pixels = _number(record, 249, "I8", UP_TO_EIGHT_DIGITS)
     data_bytes = _number(record, 281, "I8", UP_TO_EIGHT_DIGITS)
     suffix = _number(record, 289, "I4", SUFFIX_RANGE)
     _agreement(lines == lines_again)
-    _agreement(data_bytes == 2 * pixels)
-    _agreement(192 + data_bytes + suffix <= length)
-    state[N:] = [lines, length, pixels, data_bytes, suffix]
+    _agreement(_agree(sort, length, pixels, data_bytes, suffix))  # both are 8 at the same place
+    state[N:] = [lines, length, pixels, data_bytes, suffix, number]
 
 
 def _first_trailer(record: bytes, _state: State) -> None:
@@ -469,7 +505,7 @@ def fills(record: bytes) -> tuple[int, int, int]:
 
 
 def _line_due(state: State, line: int) -> Due:
-    return Due((50, 11, 18, 20), state[L], _line_body(line, state[W]))
+    return Due((50, SORTS[state[SORT]].code, 18, 20), state[L], _line_body(line, state[W]))
 
 
 def _due(state: State, plan: State) -> Due:
@@ -709,7 +745,7 @@ def _leader_file(data: bytes) -> Iterator[Record]:
         yield from group.records(data)
 
 
-def _line(number: int, length: int, pixels: int) -> Record:
+def _line(code: int, number: int, length: int, pixels: int) -> Record:
     def holds(record: bytes) -> bool:
         left, shown, right = (int.from_bytes(_part(record, at, at + 3), "big") for at in (21, 25, 29))
         return (
@@ -718,14 +754,20 @@ def _line(number: int, length: int, pixels: int) -> Record:
             and left + shown + right == pixels
         )
 
-    return Record((50, 11, 18, 20), length, holds)
+    return Record((50, code, 18, 20), length, holds)
+
+
+# text: bytes a group, least bytes before the pixels, second code byte of a line
+IMAGE_TEXTS: dict[bytes, tuple[int, int, int]] = {b"IU2 ": (2, 192, 11), b"C*8 ": (8, 412, 10)}
 
 
 def _image_file(data: bytes) -> Iterator[Record]:
+    text = _part(data, 429, 432)
+    group, ahead, code = IMAGE_TEXTS.get(text, (0, 0, 0))
     numbers = (
         _whole(data, 181, 186, 1, 999_999),  # lines n
         _whole(data, 187, 192, 1, 999_999),  # record length L
-        _whole(data, 225, 228, 2, 2),  # bytes per group
+        _whole(data, 225, 228, group, group),  # bytes per group
         _whole(data, 233, 236, 1, 1),  # channels
         _whole(data, 237, 244, 1, 99_999_999),  # lines
         _whole(data, 249, 256, 1, 99_999_999),  # pixels w
@@ -735,11 +777,11 @@ def _image_file(data: bytes) -> Iterator[Record]:
     n, length, _, _, lines, w, d, s = (number or 0 for number in numbers)
 
     def rules(first: bytes) -> bool:
-        agree = lines == n and d == 2 * w and 192 + d + s <= length
-        return _part(first, 429, 432) == b"IU2 " and None not in numbers and agree
+        agree = lines == n and d == group * w and ahead + d + s <= length
+        return _part(first, 429, 432) in IMAGE_TEXTS and None not in numbers and agree
 
     yield _first_of((50, 192, 18, 18), 720, rules)
-    yield from (_line(number, length, w) for number in range(1, n + 1))
+    yield from (_line(code, number, length, w) for number in range(1, n + 1))
 
 
 def _trailer_file(_data: bytes) -> Iterator[Record]:
@@ -785,8 +827,21 @@ def accepted(kind: int, data: bytes) -> bool:
 EVERY_RECORD = 2**64 - 1  # a budget that never pauses
 
 
-def line_view(data: bytes, k: int) -> Answer:
-    """('shown', start, data count, left fill) | ('wait', missing) | ('refused', ...).
+class View(NamedTuple):
+    """A line's data pixels: what the line view shows, and the sort that its samples have."""
+
+    start: int
+    samples: int
+    left: int
+    sort: int
+
+    def sample(self, index: int) -> int:
+        """The place of a sample, from 0 on."""
+        return self.start + SORTS[self.sort].group * index
+
+
+def viewed(data: bytes, k: int) -> Union[View, Answer]:
+    """The view of a line, or the line's own wait or refusal.
 
     "Order: first record as in the walk, open; 13; wait for the bytes still missing to
     the end of that line's record, if any; then 3, 4, 5, 10."
@@ -808,25 +863,34 @@ def line_view(data: bytes, k: int) -> Answer:
         return refused(no.number, k + 1, first + no.place)
     left, shown, _ = fills(record)
     # "Pixels start L - s - d bytes into the record; the data pixels skip the left fill."
-    return ("shown", first + state[L] - state[S] - state[D] + 2 * left, shown, left)
+    group = SORTS[state[SORT]].group
+    return View(first + state[L] - state[S] - state[D] + group * left, shown, left, state[SORT])
+
+
+def line_view(data: bytes, k: int) -> Answer:
+    """('shown', start, data count, left fill) | ('wait', missing) | ('refused', ...)."""
+    view = viewed(data, k)
+    return ("shown", *view[:3]) if isinstance(view, View) else view
 
 
 def row_copy(data: bytes, k: int, row: Sequence[int]) -> tuple[Answer, list[int]]:
     """(('copied', samples) or the view's answer or 15, the row afterwards).
 
-    "16-bit numbers, high byte first, to the row's start; later samples stay.  15 comes last."
+    "16-bit numbers, high byte first, to the row's start; later samples stay.  15 comes last."  "The row copy stays
+    for counts": 23 for another sort, before 15.
     """
     after = list(row)
-    view = line_view(data, k)
-    if view[0] != "shown":
+    view = viewed(data, k)
+    if not isinstance(view, View):
         return view, after
-    _, first, samples, _ = view
-    if len(after) < samples:
+    if view.sort != COUNTS:
+        return refused(23), after
+    if len(after) < view.samples:
         return refused(15), after
-    for j in range(samples):
-        high, low = data[first + 2 * j], data[first + 2 * j + 1]
+    for j in range(view.samples):
+        high, low = data[view.sample(j)], data[view.sample(j) + 1]
         after[j] = 256 * high + low
-    return ("copied", samples), after
+    return ("copied", view.samples), after
 
 
 def set_check(data: bytes, counts: Sequence[int]) -> Answer:

@@ -17,12 +17,15 @@ import cards
 import reader
 import make
 import make_cards
+import make_powers
+from binary32 import INFINITY, SIGN, Exact, finite, power_of_two, rounded, worth
 from cards import Card, card_answer, card_numbers, is_card
 from reader import (
-    D, EVERY_RECORD, FACILITIES, IMAGE, KIND, L, LEADER, N, PASSED, POINTERS, S, SLOTS, STATE_NUMBERS, TRAILER, VOLUME, W,
-    Answer, State, accepted, begin, decimal, field, field_at, good_state, line_view, listing, planned, refused, row_copy,
-    set_check, start, walk,
+    COMPLEX, COUNTS, D, EVERY_RECORD, FACILITIES, IMAGE, KIND, L, LEADER, N, PASSED, POINTERS, S, SLOTS, SORT, STATE_NUMBERS,
+    TRAILER, VOLUME, W, Answer, State, accepted, begin, decimal, field, field_at, good_state, line_view, listing, planned,
+    refused, row_copy, set_check, start, walk,
 )
+from samples import complex_row, power, power_of, sample
 from make import KINDS, Break, Made
 
 Whole = tuple[State, int, Answer]
@@ -254,14 +257,14 @@ def begins(tally: Tally, rng: random.Random) -> None:
     for kind in (0, 5, 6, 255, 256, 257, 2**32 + 1, 2**64 - 1):
         tally.equal(begin(kind), (zeros(), refused(1)), "begin", kind)
     for kind in KINDS:
-        tally.equal(begin(kind), ([kind] + [0] * 41, ("fresh",)), "begin", kind)
+        tally.equal(begin(kind), ([kind] + [0] * 42, ("fresh",)), "begin", kind)
         tally.check(good_state(fresh(kind)), "a fresh state is good")
         tally.equal(start(fresh(kind)), 0, "start of a fresh state")
-    tally.equal((KIND, PASSED, POINTERS, SLOTS, FACILITIES, N, L, W, D, S), (0, 1, 2, 3, 15, 37, 38, 39, 40, 41), "layout")
+    tally.equal((KIND, PASSED, POINTERS, SLOTS, FACILITIES, N, L, W, D, S, SORT), (0, 1, 2, 3, 15, 37, 38, 39, 40, 41, 42), "layout")
 
 
 def _spoiled(state: State, **at: int) -> State:
-    names = {"kind": KIND, "passed": PASSED, "pointers": POINTERS, "n": N, "L": L, "w": W, "d": D, "s": S}
+    names = {"kind": KIND, "passed": PASSED, "pointers": POINTERS, "n": N, "L": L, "w": W, "d": D, "s": S, "sort": SORT}
     changed = list(state)
     for name, value in at.items():
         changed[names[name] if name in names else int(name[1:])] = value
@@ -293,6 +296,14 @@ def state_rule_by_hand(tally: Tally, rng: random.Random) -> None:
         (True, _spoiled(image, passed=1, s=9_999, L=10_197)), (False, _spoiled(image, passed=1, s=10_000, L=10_198)),
         (True, _spoiled(image, passed=1, w=499_903, d=999_806, s=1, L=999_999)), (False, _spoiled(image, passed=1, pointers=3)),
         (False, _spoiled(image, passed=1, _15=1)),
+        (False, _spoiled(image, passed=1, sort=1)), (False, _spoiled(image, passed=1, sort=2, d=24, L=999)),
+        (True, _spoiled(image, passed=1, sort=1, d=24, L=438)), (False, _spoiled(image, passed=1, sort=1, d=24, L=437)),
+        (False, _spoiled(image, passed=1, sort=0, d=24, L=438)), (False, _spoiled(image, passed=1, sort=1, d=6, L=438)),
+        (False, _spoiled(image, passed=1, sort=2)), (False, _spoiled(image, passed=1, sort=2**64 - 1)), (False, _spoiled(image, passed=1, sort=2**32)),
+        (True, _spoiled(image, passed=5, sort=1, w=124_948, d=999_584, s=3, L=999_999)), (False, _spoiled(image, passed=6, sort=1, d=24, L=438)),
+        (False, _spoiled(image, passed=1, sort=1, w=2**61 + 3, d=24, L=438)),  # 8w is d only where it wraps
+        (False, _spoiled(fresh(IMAGE), sort=1)), (False, _spoiled(volume, passed=1, sort=1)), (False, _spoiled(trailer, passed=1, sort=1)),
+        (False, _spoiled(leader, passed=1, sort=1)),
         (True, _spoiled(leader, passed=1)), (True, _spoiled(leader, passed=17)), (False, _spoiled(leader, passed=18)),
         (True, _spoiled(most, passed=50)), (False, _spoiled(most, passed=51)),
         (False, _spoiled(leader, passed=1, _3=0)), (False, _spoiled(leader, passed=1, _3=0, _4=0)), (False, _spoiled(leader, passed=1, _3=2)),
@@ -312,7 +323,7 @@ def state_rule_by_hand(tally: Tally, rng: random.Random) -> None:
 
 def _plan_is_written(plan: State) -> bool:
     """The numbers that the kind does not use, and lengths of count 0, are 0."""
-    used = {VOLUME: {POINTERS}, LEADER: set(range(SLOTS, N)), IMAGE: set(range(N, S + 1)), TRAILER: set()}[plan[KIND]]
+    used = {VOLUME: {POINTERS}, LEADER: set(range(SLOTS, N)), IMAGE: set(range(N, SORT + 1)), TRAILER: set()}[plan[KIND]]
     lengths = all(plan[i + 1] == 0 for i in range(SLOTS, N, 2) if plan[i] == 0)
     return lengths and not any(number for i, number in enumerate(plan) if i >= POINTERS and i not in used)
 
@@ -325,7 +336,7 @@ def states_and_first_records(tally: Tally, rng: random.Random) -> None:
             at = rng.randrange(POINTERS, STATE_NUMBERS)
             plan[at] = rng.choice((rng.choice(make.EDGES), max(0, plan[at] + rng.choice((-1, 1)))))
         if rng.random() < 0.5 and plan[KIND] == IMAGE:
-            plan[D] = 2 * plan[W]
+            plan[D] = make.GROUP.get(plan[SORT], 2) * plan[W]
         state = list(plan)
         state[PASSED] = 1
         if not _plan_is_written(plan):
@@ -333,8 +344,8 @@ def states_and_first_records(tally: Tally, rng: random.Random) -> None:
             continue
         try:
             data = make.first_record(rng, plan).data
-        except ValueError:  # wider than its field
-            tally.check(not good_state(state), "wider than its field", state)
+        except ValueError:  # wider than its field, or a sort that no text names
+            tally.check(not good_state(state), "no record writes it", state)
             continue
         after, passed, stop = walk(fresh(plan[KIND]), data, False, 1)
         tally.equal(passed == 1, good_state(state), "first record passed and plan good", state, stop)
@@ -378,11 +389,15 @@ def any_states(tally: Tally, rng: random.Random) -> None:
 
 def far_places(tally: Tally, rng: random.Random) -> None:
     """Places pass 32 bits: n = L = 999,999."""
-    plan = make.image_plan(999_999, 2, 0, 999_999)
+    for sort in (COUNTS, COMPLEX):
+        _check_far(tally, make.image_plan(999_999, 2, 0, 999_999, sort))
+
+
+def _check_far(tally: Tally, plan: State) -> None:
     plan[PASSED] = passed = 999_000
     begun = 720 + (passed - 1) * 999_999
     tally.equal(start(plan), begun, "far start")
-    header = words(passed + 1) + bytes((50, 11, 18, 20)) + words(999_999)
+    header = words(passed + 1) + bytes((50, make.LINE_CODE[plan[SORT]], 18, 20)) + words(999_999)
     line = header + words(passed, 1, 1, 1, 0)
     record = line + bytes(999_999 - len(line))
     moved = _spoiled(plan, passed=passed + 1)
@@ -405,7 +420,7 @@ def _shapes(rng: random.Random) -> Iterator[State]:
     yield make.leader_plan([(1, 1620)] + [(9, 12)] * 4, [(1, 12)] * 11)  # 1 + 1 + 1 + 36 + 11 = 50 records
     yield from (make.volume_plan(pointers) for pointers in (3, 4, 5, 6) for _ in range(20))
     for n, w, s, more in itertools.product((1, 2, 3), (1, 2, 5), (0, 1, 7), (0, 1, 2, 33)):
-        yield make.image_plan(n, w, s, 192 + 2 * w + s + more)
+        yield from (make.image_plan(n, w, s, make.least_length(sort, w, s) + more, sort) for sort in (COUNTS, COMPLEX))
     yield from (make.random_plan(rng, kind) for kind in KINDS for _ in range(60))
 
 
@@ -688,7 +703,7 @@ def lines_and_rows(tally: Tally, rng: random.Random) -> None:
         plan = made.plan
         for k, line in enumerate(made.lines, start=1):
             begun = made.starts[k]
-            want = begun + plan[L] - plan[S] - plan[D] + 2 * line.left
+            want = begun + plan[L] - plan[S] - plan[D] + make.GROUP[plan[SORT]] * line.left
             view = ("shown", want, len(line.pixels), line.left)
             held = made.data[: made.starts[k + 1]]
             tally.equal(line_view(made.data, k), view, "line view")
@@ -696,8 +711,9 @@ def lines_and_rows(tally: Tally, rng: random.Random) -> None:
             tally.equal(line_view(held[:-1], k), ("wait", 1), "one byte missing")
             tally.equal(line_view(made.data[:720], k), ("wait", k * plan[L]), "all lines missing")
             area = (begun + plan[L] - plan[S] - plan[D], begun + plan[L] - plan[S])
-            tally.check(begun + 192 <= area[0] and area[1] <= begun + plan[L], "pixel area inside its record")
-            _check_rows(tally, rng, made.data, k, line.pixels)
+            tally.check(begun + make.AHEAD[plan[SORT]] <= area[0] and area[1] <= begun + plan[L], "pixel area inside its record")
+            _check_rows(tally, rng, made, k)
+            _check_samples(tally, rng, made, k)
         for k in (0, plan[N] + 1, 2**32, 2**64 - 1):
             tally.equal(line_view(made.data, k), refused(13), "line outside 1 to n", k)
             tally.equal(line_view(made.data[:720], k), refused(13), "13 before the wait", k)
@@ -706,15 +722,39 @@ def lines_and_rows(tally: Tally, rng: random.Random) -> None:
         tally.equal(line_view(made.data[:5], 1), ("wait", 7), "first record waits for 12")
 
 
-def _check_rows(tally: Tally, rng: random.Random, data: bytes, k: int, pixels: tuple[int, ...]) -> None:
-    shown = len(pixels)
+def _check_rows(tally: Tally, rng: random.Random, made: Made, k: int) -> None:
+    """The row copy of the line's sort, and the other, which is 23 before 15."""
+    pixels, data = made.lines[k - 1].pixels, made.data
+    copy, other, each = (row_copy, complex_row, 1) if made.plan[SORT] == COUNTS else (complex_row, row_copy, 2)
+    numbers = [number for pixel in pixels for number in (pixel if isinstance(pixel, tuple) else (pixel,))]
+    shown = each * len(pixels)
     for size in {shown, shown + 1, shown + 7}:
         row = [rng.randrange(65_536) for _ in range(size)]
-        tally.equal(row_copy(data, k, row), (("copied", shown), [*pixels, *row[shown:]]), "row copy", size)
+        tally.equal(copy(data, k, row), (("copied", len(pixels)), [*numbers, *row[shown:]]), "row copy", size)
+        tally.equal(other(data, k, row), (refused(23), row), "23", size)
+    tally.equal(other(data, k, []), (refused(23), []), "23 before 15")
     if shown:
         row = [rng.randrange(65_536) for _ in range(shown - 1)]
-        tally.equal(row_copy(data, k, row), (refused(15), row), "15")
-        tally.equal(row_copy(data[:730], k, [])[0][0], "wait", "15 comes last")
+        tally.equal(copy(data, k, row), (refused(15), row), "15")
+        tally.equal(copy(data[:730], k, [])[0][0], "wait", "15 comes last")
+        tally.equal(other(data[:730], k, [])[0][0], "wait", "23 after the line's own")
+
+
+def _check_samples(tally: Tally, rng: random.Random, made: Made, k: int) -> None:
+    """Every sample of a made line is the maker's; 36 behind the last; the power's order 23, 36, 24."""
+    pixels, data, counts = made.lines[k - 1].pixels, made.data, made.plan[SORT] == COUNTS
+    for index, pixel in enumerate(pixels):
+        want = ("complex", *pixel) if isinstance(pixel, tuple) else ("count", pixel)
+        tally.equal(sample(data, k, index), want, "sample", index)
+        bits = power_of(*pixel) if isinstance(pixel, tuple) else None
+        due = refused(23) if counts else refused(24) if bits is None else ("power", bits)
+        tally.equal(power(data, k, index), due, "power", index)
+    for index in (len(pixels), len(pixels) + 1, 2**32, 2**61, 2**64 - 1):
+        tally.equal(sample(data, k, index), refused(36), "36", index)
+        tally.equal(power(data, k, index), refused(23 if counts else 36), "36 after 23", index)
+        for ask in (sample, power):
+            tally.equal(ask(data[:730], k, index)[0], "wait", "after the line's own wait")
+            tally.equal(ask(data, 0, index), refused(13), "after the line's own refusal")
 
 
 def broken_lines(tally: Tally, rng: random.Random) -> None:
@@ -734,6 +774,8 @@ def broken_lines(tally: Tally, rng: random.Random) -> None:
                 if want[0] == "refused":
                     tally.equal(row_copy(data, k, row), (want, row), "row untouched")
                     tally.equal(row_copy(data, k, []), (want, []), "15 comes last")
+                    tally.equal(complex_row(data, k, row), (want, row), "the complex row's too")
+                    tally.equal((sample(data, k, 0), power(data, k, 2**64 - 1)), (want, want), "the line's own first")
                     held = data[: made.starts[k + 1] - 1]
                     if record > 1:  # a wrong line header whose record is not whole is a wait
                         tally.equal(row_copy(held, k, row), (("wait", 1), row), "wait before 3, 4, 5, 10")
@@ -754,10 +796,11 @@ def lines_shown(tally: Tally, rng: random.Random) -> None:
                 tally.equal(line_view(longer, k), view, "line stays")
                 tally.equal(row_copy(longer, k, row), copied, "row stays")
             if copied[0][0] == "copied":
-                samples = [int.from_bytes(data[at : at + 2], "big") for at in range(view[1], view[1] + 2 * view[2], 2)]
-                tally.equal(copied, (("copied", view[2]), samples + row[view[2] :]), "samples named")
+                numbers = [int.from_bytes(data[at : at + 2], "big") for at in range(view[1], view[1] + 2 * view[2], 2)]
+                tally.equal(copied, (("copied", view[2]), numbers + row[view[2] :]), "samples named")
             else:
                 tally.equal(copied[1], row, "row untouched")
+                tally.check(view[0] != "shown" or copied[0] in (refused(15), refused(23)), "15 or 23", copied[0])
 
 
 def _line_fits(data: bytes, k: int) -> bool:
@@ -819,6 +862,133 @@ def listings(tally: Tally, rng: random.Random) -> None:
 
 
 # --------------------------------------------------------------------------
+# Complex scenes (document 02, No. 2)
+# --------------------------------------------------------------------------
+
+
+def spelt_complex() -> bytes:
+    """n = 2, w = 2, s = 3, L = 432: 412 bytes, one more, 16 of pixels, 3.  Spelt out without the makers."""
+    first = words(1) + bytes((50, 192, 18, 18)) + words(720) + b"A " + b" " * 706
+    for byte, text in ((181, b"     2   432"), (225, b"   8"), (233, b"   1       2"), (249, b"       2"), (281, b"      16   3"), (429, b"C*8 ")):
+        first = patched(first, byte, text)
+    record = bytes((50, 10, 18, 20)) + words(432)
+    # 3 and 4, then a NaN that signals and minus zero
+    one = words(2) + record + words(1, 1, 0, 2, 0) + b"?" * (413 - 32) + words(0x40400000, 0x40800000, 0xFFA00001, 0x80000000)
+    # the fill pixel is not judged; 1 and -2
+    two = words(3) + record + words(2, 1, 1, 1, 0) + b"?" * (413 - 32) + b"fill....".ljust(8) + words(0x3F800000, 0xC0000000)
+    return first + one + b"s" * 3 + two + b"s" * 3
+
+
+def complex_by_hand(tally: Tally, rng: random.Random) -> None:
+    """A complex image spelt out: its walk, views, samples, powers and rows."""
+    data = spelt_complex()
+    tally.equal(len(data), 720 + 2 * 432, "its size")
+    last = [3, 3, *[0] * 35, 2, 432, 2, 16, 3, 1]
+    tally.equal(whole_walk(IMAGE, data), (last, 3, ("complete",)), "complete")
+    tally.check(accepted(IMAGE, data) and good_state(last), "accepted")
+    tally.equal(line_view(data, 1), ("shown", 720 + 413, 2, 0), "line 1")
+    tally.equal(line_view(data, 2), ("shown", 1152 + 413 + 8, 1, 1), "line 2: the left fill is 8 bytes a pixel")
+    tally.equal(sample(data, 1, 0), ("complex", 0x40400000, 0x40800000), "3 and 4")
+    tally.equal(sample(data, 1, 1), ("complex", 0xFFA00001, 0x80000000), "bits kept")
+    tally.equal(sample(data, 2, 0), ("complex", 0x3F800000, 0xC0000000), "1 and -2")
+    tally.equal([power(data, 1, 0), power(data, 2, 0)], [("power", 0x41C80000), ("power", 0x40A00000)], "25 and 5")
+    tally.equal(power(data, 1, 1), refused(24), "a part is no number")
+    tally.equal([sample(data, 1, 2), power(data, 1, 2), power(data, 2, 1)], [refused(36)] * 3, "36 before 24")
+    row = [0x40400000, 0x40800000, 0xFFA00001, 0x80000000]
+    tally.equal(complex_row(data, 1, [9] * 6), (("copied", 2), [*row, 9, 9]), "the complex row")
+    tally.equal(complex_row(data, 1, [9] * 3), (refused(15), [9] * 3), "two numbers a sample")
+    tally.equal(row_copy(data, 1, [9] * 9), (refused(23), [9] * 9), "the row copy stays for counts")
+    tally.equal(listing(data), b"IMAGE 2 LINES 2 PIXELS\n1 0 2 0\n2 1 1 0\nCOMPLETE 3 RECORDS 1584 BYTES\n", "the listing")
+    built = cards.build(data, small_leader(rng), bytes(63))
+    tally.equal(built[0], ("built", 63), "its card")
+    tally.equal(built[1][:43].hex(" ", 1)[:50], "01 00 00 00 02 00 00 01 b0 00 00 00 02 00 00 00 10", "n, L, w, d")
+
+
+def complex_edges(tally: Tally, rng: random.Random) -> None:
+    """What a text, a group, d, L and a line code may not be, each with its refusal, in order."""
+    data, counts = spelt_complex(), make.make_image(rng, make.image_plan(2, 3, 0), [(0, 3, 0), (1, 2, 0)]).data
+    first = fresh(IMAGE)
+    for due, image, *patches in (
+        (refused(7, 1, 224), data, (225, b"   2")), (refused(7, 1, 224), counts, (225, b"   8")),
+        (refused(7, 1, 224), data, (429, b"IU2 ")), (refused(7, 1, 224), counts, (429, b"C*8 ")),
+        (refused(8, 1, 0), data, (429, b"IU2 "), (225, b"   2")), (refused(8, 1, 0), counts, (429, b"C*8 "), (225, b"   8")),
+        (refused(8, 1, 0), data, (281, b"       4")), (refused(8, 1, 0), data, (187, b"   430")),
+        (refused(8, 1, 0), data, (187, b"   211")), (refused(8, 1, 0), data, (289, b"   5")),
+        (refused(6, 1, 224), data, (225, b"    ")), (refused(7, 1, 224), data, (225, b"  -8")), (refused(7, 1, 224), data, (225, b"  16")),
+        *((refused(8, 1, 428), image, (429, text), (225, b"   x")) for text in make.OTHER_TEXTS for image in (data, counts)),
+        (refused(8, 1, 12), data, (13, b"B "), (429, b"    ")), (refused(6, 1, 180), data, (181, b"     x"), (225, b"   2")),
+    ):
+        for byte, text in patches:
+            image = patched(image, byte, text)
+        tally.equal(whole_walk(IMAGE, image), (first, 0, due), "an image's first record", patches)
+        tally.equal([line_view(image, 9), sample(image, 9, 9), power(image, 9, 9)], [due] * 3, "before 13", patches)
+        tally.check(not accepted(IMAGE, image), "not accepted", patches)
+    tally.equal(whole_walk(IMAGE, patched(data, 726, b"\x0b"))[1:], (1, refused(4, 2, 724)), "line code 11 under C*8")
+    tally.equal(whole_walk(IMAGE, patched(counts, 720 + 198 + 6, b"\x0a"))[1:], (2, refused(4, 3, 922)), "line code 10 under IU2")
+    least = make.make_image(rng, make.image_plan(1, 2, 3, sort=COMPLEX), [(0, 2, 0)])
+    tally.equal(least.plan[L], 431, "412 + 16 + 3")
+    tally.equal((whole_walk(IMAGE, least.data)[2], line_view(least.data, 1)), (("complete",), ("shown", 1132, 2, 0)), "412 + d + s = L")
+
+
+def roundings(tally: Tally, rng: random.Random) -> None:
+    """Rounding to single precision: by hand, and no pattern is nearer, nor as near and even."""
+    two = power_of_two
+    for number, want in (
+        (Exact(0), 0), (Exact(1), 0x3F800000), (1 + two(-24), 0x3F800000), (1 + 3 * two(-24), 0x3F800002),
+        (1 + two(-24) + two(-60), 0x3F800001), (2 - two(-24), 0x40000000), (Exact(1, 3), 0x3EAAAAAB), (Exact(1, 10), 0x3DCCCCCD),
+        (two(-149), 1), (two(-150), 0), (two(-150) + two(-300), 1), (3 * two(-150), 2), (two(-151), 0), (two(-126), 0x00800000),
+        (two(-126) - two(-150), 0x00800000), (two(-126) - two(-149), 0x007FFFFF), (Exact(16777217), 0x4B800000), (Exact(16777219), 0x4B800002),
+        (two(128) - two(104), 0x7F7FFFFF), (two(128) - two(103) - 1, 0x7F7FFFFF), (two(128) - two(103), INFINITY), (two(200), INFINITY),
+    ):
+        tally.equal(rounded(number), want, "rounded by hand", number)
+    for pattern, number in ((0x80000000, Exact(0)), (0xC0490FDB, Exact(-13176795, 2**22)), (0x80000001, -two(-149)), (0x7F7FFFFF, two(128) - two(104))):
+        tally.equal(worth(pattern), number, "worth", hex(pattern))
+    for _ in range(3000):
+        pattern = rng.choice((rng.choice(make_powers.EDGES), rng.randrange(INFINITY))) % INFINITY
+        tally.equal(rounded(worth(pattern)), pattern, "a pattern is its own nearest", hex(pattern))
+        number = worth(pattern) * Exact(rng.choice((rng.randrange(2**30), 2**29)), 2**29) + rng.choice((0, two(-150)))
+        _check_nearest(tally, number)
+        _check_nearest(tally, worth(pattern) ** 2)
+        _check_nearest(tally, (worth(pattern) + worth(min(pattern + 1, INFINITY - 1))) / 2)
+
+
+def _check_nearest(tally: Tally, number: Exact) -> None:
+    """Against its neighbours; infinity stands where the next number would, 2^128."""
+    found = rounded(number)
+    if number >= power_of_two(128):
+        tally.equal(found, INFINITY, "past the greatest", number)
+        return
+    far = {pattern: abs(number - (worth(pattern) if finite(pattern) else power_of_two(128))) for pattern in (found - 1, found, found + 1) if 0 <= pattern <= INFINITY}
+    tally.check(all(far[found] < away or (far[found] == away and found % 2 == 0) for pattern, away in far.items() if pattern != found), "nearest", number)
+
+
+def powers(tally: Tally, rng: random.Random) -> None:
+    """Powers by hand, and where a fused multiply-add would give other bits."""
+    for real, imaginary, want in (
+        (0x40400000, 0x40800000, 0x41C80000),  # 3 and 4: 25
+        (0x80000000, 0x00000000, 0x00000000), (0x80000000, 0x80000000, 0x00000000),  # no minus zero
+        (0x1A000000, 0x1A000000, 0), (0x1A000001, 0, 1), (0x1A000001, 0x1A000001, 2),  # 2^-75: its square is half the least
+        (0x00000001, 0x3F800000, 0x3F800000), (0x007FFFFF, 0x007FFFFF, 0),  # subnormal parts have no square
+        (0x20000000, 0, 0x00800000), (0x1FFFFFFF, 0, 0x007FFFFF), (0x1FB504F3, 0x1FB504F3, 0x00800000),
+        (0x5F7FFFFF, 0, 0x7F7FFFFE), (0x5F800000, 0, None), (0, 0xDF800000, None),  # the square passes the greatest
+        (0x5F3504F3, 0x5F3504F3, 0x7F7FFFFF), (0x5F3504F4, 0x5F3504F4, None), (0x5F7FFFFF, 0x5F000000, None),  # the sum does
+        (0x7F800000, 0, None), (0, 0xFF800000, None), (0x7FC00000, 0, None), (0, 0x7F800001, None), (0x7F7FFFFF, 0, None),
+        (0x3F800800, 0x39800000, 0x3F801000),  # 1 + 2^-12 and 2^-12: both ties go to the even one
+    ):
+        tally.equal(power_of(real, imaginary), want, "power by hand", hex(real), hex(imaginary))
+        signs = [power_of(real ^ one, imaginary ^ other) for one in (0, SIGN) for other in (0, SIGN)]
+        tally.equal(signs, [want] * 4, "any signs", hex(real), hex(imaginary))
+        tally.equal(power_of(imaginary, real), want, "either order", hex(real), hex(imaginary))
+    tally.equal(make_powers.fused(0x3F800800, 0x39800000), 0x3F801001, "a fused multiply-add rounds once too few")
+    tally.equal(make_powers.fused(0x39800000, 0x3F800800), 0x3F801000, "the other way round it does not show")
+    tally.check(len(make_powers.vectors()) >= 4_000, "enough pairs")
+    telling = sum(make_powers.fused(*pair) != power_of(*pair) for pair in make_powers.vectors())
+    turned = sum(make_powers.fused(*pair[::-1]) != power_of(*pair) for pair in make_powers.vectors())
+    tally.check(telling >= 500 and turned >= 500, "enough that tell a fused multiply-add", telling, turned)
+    print(f"    ({len(make_powers.vectors())} pairs, {telling} and {turned} tell a fused multiply-add)", end="")
+
+
+# --------------------------------------------------------------------------
 # Cards (document 02, No. 1)
 # --------------------------------------------------------------------------
 
@@ -860,6 +1030,11 @@ def cards_by_hand(tally: Tally, rng: random.Random) -> None:
         (CARD + b"\x04", refused(20, 0, 63)),
         (CARD + b"\x03", refused(21, 0, 63)),
         (CARD + cards.entry(3, 3, 4816, 0), ("card", 2, 3)),
+        (cards.entry(1, 2, 436, 3, 24) + CARD[17:], ("card", 2, 2)),  # d = 8w, 412 + d = L
+        (cards.entry(1, 2, 435, 3, 24) + CARD[17:], refused(22)),
+        (cards.entry(1, 2, 216, 3, 24) + CARD[17:], refused(22)),
+        (cards.entry(1, 2, 436, 3, 6) + CARD[17:], ("card", 2, 2)),
+        (cards.entry(1, 2, 436, 3, 12) + CARD[17:], refused(22)),
     ):
         tally.equal(card_answer(data), due, "a card by hand", data.hex())
     many = scene + line + second + b"".join(cards.entry(3, ordinal, 0, 0) for ordinal in range(1, 256))
@@ -955,6 +1130,7 @@ SECTIONS: tuple[Callable[[Tally, random.Random], None], ...] = (
     states_and_first_records, any_states, far_places, valid_files, unread_bytes, blank_counts, broken_singly,
     broken_in_pairs, broken_and_cut, complete_and_accepted, in_pieces, byte_by_byte, refusals_stay, arriving,
     body_damage_at_ends, lines_and_rows, broken_lines, lines_shown, sets, listings,
+    complex_by_hand, complex_edges, roundings, powers,
     cards_by_hand, cards_read, cards_are_read, cards_built, same_seed,
 )  # fmt: skip
 
