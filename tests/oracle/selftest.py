@@ -958,8 +958,13 @@ def _check_nearest(tally: Tally, number: Exact) -> None:
     if number >= power_of_two(128):
         tally.equal(found, INFINITY, "past the greatest", number)
         return
-    far = {pattern: abs(number - (worth(pattern) if finite(pattern) else power_of_two(128))) for pattern in (found - 1, found, found + 1) if 0 <= pattern <= INFINITY}
-    tally.check(all(far[found] < away or (far[found] == away and found % 2 == 0) for pattern, away in far.items() if pattern != found), "nearest", number)
+
+    def away(pattern: int) -> Exact:
+        return abs(number - (worth(pattern) if finite(pattern) else power_of_two(128)))
+
+    for other in {max(found - 1, 0), min(found + 1, INFINITY)} - {found}:
+        nearest = away(found) < away(other) or (away(found) == away(other) and found % 2 == 0)
+        tally.check(nearest, "nearest", number, hex(found), hex(other))
 
 
 def powers(tally: Tally, rng: random.Random) -> None:

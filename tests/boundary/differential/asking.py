@@ -7,30 +7,33 @@ import struct
 import sys
 from collections import Counter
 from pathlib import Path
-from typing import Optional, Sequence
+from typing import Callable, Optional, Sequence
 
 TESTS = Path(__file__).resolve().parent.parent.parent
 sys.path.insert(0, str(TESTS / 'oracle'))
 import cards  # noqa: E402
 import reader  # noqa: E402
+import samples  # noqa: E402
 from reader import Answer, State  # noqa: E402
 
 MANY = 2 ** 64 - 1
-STATE, ANSWER, VALUE = 42, 5, 2  # how many numbers
+STATE, ANSWER, VALUE = 43, 5, 2  # how many numbers
 NULLS, KEEP = 7, 8  # flags of the driver: NULL wherever a length is 0; hold the moved state
 TAGS = {'refused': 0, 'wait': 1, 'pause': 2, 'complete': 3, 'fresh': 4, 'value': 5, 'blank': 6, 'shown': 7, 'copied': 8, 'agrees': 9,
-        'built': 10, 'card': 11}
-REFUSALS = (*range(1, 16), 20, 21, 22, 37)  # every number that there is
+        'built': 10, 'card': 11, 'count': 12, 'complex': 13, 'power': 14}
+REFUSALS = (*range(1, 16), 20, 21, 22, 23, 24, 36, 37)  # every number that there is
 LETTERS = {'b': 'sbg_begin', 'w': 'sbg_walk', 't': 'sbg_start', 'f': 'sbg_field', 'l': 'sbg_line', 'r': 'sbg_row', 'c': 'sbg_set',
-           'L': 'the listing by sbg_walk and sbg_line', 'u': 'sbg_card_build', 'd': 'sbg_card', 'n': 'sbg_card_numbers'}
+           'L': 'the listing by sbg_walk and sbg_line', 'u': 'sbg_card_build', 'd': 'sbg_card', 'n': 'sbg_card_numbers',
+           's': 'sbg_sample', 'p': 'sbg_power', 'x': 'sbg_complex_row'}
 
 # What the driver's arrays hold before a call.
 PATTERN = [0xA5A5A5A5A5A5A500 + i for i in range(1 << 14)]
 SAMPLES = [(i * 40503 + 7) & 0xFFFF for i in range(1 << 15)]
+WORDS = [(i * 2654435761 + 0x7FA00001) & 0xFFFFFFFF for i in range(1 << 16)]
 CARD_BYTES = bytes((i * 151 + 93) & 0xFF for i in range(1 << 17))
 
 _head = struct.Struct('<7Q').pack  # returned, harm, answer
-_state = struct.Struct('<42Q').pack
+_state = struct.Struct(f'<{STATE}Q').pack
 _value = struct.Struct('<2Q').pack
 _span = struct.Struct('<II').pack
 _lengths = struct.Struct('<3B').pack
@@ -194,6 +197,28 @@ class Asking:
         self._ask('r', [(at, size)], rest, due, f'line {line} of {size} bytes, row of {row_len}, answer of {answer_len}')
         return answer
 
+    def sample(self, at: int, size: int, line: int, index: int, answer_len: int = ANSWER) -> Answer:
+        return self._sample('s', samples.sample, at, size, line, index, answer_len)
+
+    def power(self, at: int, size: int, line: int, index: int, answer_len: int = ANSWER) -> Answer:
+        return self._sample('p', samples.power, at, size, line, index, answer_len)
+
+    def _sample(self, letter: str, oracle: Callable[[bytes, int, int], Answer], at: int, size: int, line: int, index: int,
+                answer_len: int) -> Answer:
+        answer = oracle(self.bytes_at(at, size), line, index)
+        rest = struct.pack('<QQ3B', line, index, 0, answer_len, NULLS)
+        due = self._told(answer_len >= ANSWER, answer, 0, answer_len)
+        self._ask(letter, [(at, size)], rest, due, f'sample {index} of line {line} of {size} bytes, answer of {answer_len}')
+        return answer
+
+    def complex_row(self, at: int, size: int, line: int, row_len: int, answer_len: int = ANSWER) -> Answer:
+        answered, before = answer_len >= ANSWER, WORDS[:row_len]
+        answer, after = samples.complex_row(self.bytes_at(at, size), line, before)
+        rest = struct.pack('<QI3B', line, row_len, 0, answer_len, NULLS)
+        due = self._told(answered, answer, 0, answer_len) + struct.pack(f'<{row_len}I', *(after if answered else before))
+        self._ask('x', [(at, size)], rest, due, f'line {line} of {size} bytes, row of {row_len}, answer of {answer_len}')
+        return answer
+
     def set(self, at: int, size: int, counts: Sequence[int], answer_len: int = ANSWER) -> None:
         answer = reader.set_check(self.bytes_at(at, size), counts)
         rest = struct.pack(f'<I{len(counts)}Q3B', len(counts), *counts, 0, answer_len, NULLS)
@@ -238,12 +263,13 @@ def told(letter: str, reply: bytes) -> list[str]:
     """A reply in words, part by part."""
     if letter == 'L':
         return [f'{int.from_bytes(reply[:8], "little")} bytes of rows', *reply[16:].decode('ascii', 'replace').split('\n')]
-    count = min(7, len(reply) // 8) if letter in 'ru' else len(reply) // 8
+    count = min(7, len(reply) // 8) if letter in 'rux' else len(reply) // 8
     names = ['returned', 'harm', 'tag', 'a', 'b', 'c', 'count']
     behind = {'f': ['number', 'exponent'], 'n': [f'numbers[{i}]' for i in range(count)]}
     names += behind.get(letter, [f'state[{i}]' for i in range(STATE)])
     parts = [f'{name} {number}' for name, number in zip(names, struct.unpack(f'<{count}Q', reply[:8 * count]))]
     if letter == 'u':
         return parts + [f'card[{i}] {byte}' for i, byte in enumerate(reply[56:])]
-    samples = reply[56:len(reply) // 2 * 2] if letter == 'r' else b''
-    return parts + [f'row[{i}] {sample}' for i, (sample,) in enumerate(struct.iter_unpack('<H', samples))]
+    width = {'r': 2, 'x': 4}.get(letter, 0)
+    row = reply[56:len(reply) // width * width] if width else b''
+    return parts + [f'row[{i}] {number}' for i, (number,) in enumerate(struct.iter_unpack('<I' if width == 4 else '<H', row))]

@@ -6,12 +6,13 @@
  *
  * Numbers are little-endian. It keeps bytes and a state:
  *   B size:4 bytes          hold these bytes        P place:4 size:4 bytes   put some into them
- *   S 42 numbers            hold this state         K index:1 number:8       one number of it
+ *   S 43 numbers            hold this state         K index:1 number:8       one number of it
  * A question is a letter, then, if it is of bytes, from:4 and length:4 in the bytes held (u: twice, image and
  * leader); then
  *   b kind:8                w closed:8 budget:8     t (the start)            f number:8
  *   l line:8                r line:8 row:4          c many:4 counts:8..      L (list an image by b, w and l)
- *   u card:4                d (read a card)         n many:4
+ *   u card:4                d (read a card)         n many:4                 s, p line:8 index:8
+ *   x line:8 row:4
  * then three bytes: the length of state or value, the length of the answer, and flags: 1, 2, 4 NULL for
  * bytes, for state, value, row, counts, card or numbers, for the answer, where the length is 0; 8 hold the
  * moved state.
@@ -62,6 +63,7 @@ static uint64_t harm_ahead(const void *array) { return harmed_ahead(array) ? AHE
 /* What an array holds before the call. */
 static uint64_t pattern(size_t i) { return 0xA5A5A5A5A5A5A500u + i; }
 static uint16_t sample_pattern(size_t i) { return (uint16_t)(i * 40503 + 7); }
+static uint32_t word_pattern(size_t i) { return (uint32_t)(i * 2654435761u + 0x7FA00001u); }
 static uint8_t card_pattern(size_t i) { return (uint8_t)(i * 151 + 93); }
 
 static void fill(uint64_t *numbers, size_t from, size_t len) {
@@ -215,6 +217,29 @@ static void ask_row(void) {
   put(row, 2 * row_len);
 }
 
+typedef uint64_t OfSample(const uint8_t *, size_t, uint64_t, uint64_t, uint64_t *, size_t);
+
+/* sbg_sample and sbg_power take the same. */
+static void ask_sample(OfSample *call) {
+  take_bytes();
+  uint64_t line = number(8), index = number(8);
+  take_lengths();
+  reply(call(bytes_arg(), len, line, index, answer_arg(), answer_len), harm_bytes());
+}
+
+static void ask_complex_row(void) {
+  take_bytes();
+  uint64_t line = number(8);
+  size_t row_len = number(4);
+  take_lengths();
+  uint32_t *row = fit(&array_arena, 4 * row_len);
+  for (size_t i = 0; i < row_len; i++) row[i] = word_pattern(i);
+  uint32_t *lent = or_null(row, row_len, NULL_ARRAY);
+  uint64_t returned = sbg_complex_row(bytes_arg(), len, line, lent, row_len, answer_arg(), answer_len);
+  reply(returned, harm_bytes() | harm_ahead(row));
+  put(row, 4 * row_len);
+}
+
 static void ask_set(void) {
   take_bytes();
   size_t many = number(4);
@@ -342,6 +367,9 @@ static void follow(uint64_t letter) {
   case 'u': ask_card_build(); break;
   case 'd': ask_card(); break;
   case 'n': ask_card_numbers(); break;
+  case 's': ask_sample(sbg_sample); break;
+  case 'p': ask_sample(sbg_power); break;
+  case 'x': ask_complex_row(); break;
   default: die("no such letter");
   }
 }

@@ -22,7 +22,7 @@ from typing import Generator, Iterator, Optional
 sys.dont_write_bytecode = True
 HERE = Path(__file__).resolve().parent
 sys.path.insert(0, str(HERE))
-from asking import LETTERS, REFUSALS, TAGS, Asking, Disagree, Reached, told  # noqa: E402
+from asking import LETTERS, REFUSALS, STATE, TAGS, Asking, Disagree, Reached, told  # noqa: E402
 import reader  # noqa: E402
 import sorts  # noqa: E402
 from sorts import BY_NAME, SORTS  # noqa: E402
@@ -139,8 +139,8 @@ class Batch:
         """Asks a block and gives how many questions it had."""
         first = len(self.ask.ends)
         self.blocks.append((first, where))
-        self.ask.held, self.ask.state = bytearray(), [-1] * 42  # a block stands for itself
-        self.ask.set_state([0] * 42)
+        self.ask.held, self.ask.state = bytearray(), [-1] * STATE  # a block stands for itself
+        self.ask.set_state([0] * STATE)
         BY_NAME[where[1]](drawn(where), self.ask, where[2])
         return len(self.ask.ends) - first
 
@@ -269,7 +269,7 @@ def selftest(seed: int) -> int:
     """Every way of wrong.c is noticed, and the same driver with none of them is right."""
     began, tally = time.monotonic(), Tally()
     names = re.findall(r'^uint64_t REAL\((\w+)\)', (HERE / 'wrong.c').read_text(), re.M)
-    program = build('wrong', str(HERE / 'wrong.c'), *(f'-Wl,--wrap={name}' for name in names))
+    program = build('wrong', str(HERE / 'wrong.c'), *(f'-Wl,--wrap={name}' for name in names), '-lm')
     ways = sorted(set(re.findall(r'wrong\("([\w-]+)"\)', (HERE / 'wrong.c').read_text())))
     batches = list(asked(program, SELFTEST, seed, tally))
     if not all(batch.right() for batch in batches):

@@ -10,7 +10,8 @@ from asking import MANY, STATE, Asking
 import reader  # the path to tests/oracle is set by asking
 import make
 import make_cards
-from reader import IMAGE, LEADER, N, PASSED, TRAILER, VOLUME, W
+import make_powers
+from reader import COMPLEX, COUNTS, IMAGE, LEADER, N, PASSED, TRAILER, VOLUME, W
 from make import KINDS, Made
 
 OPEN, CLOSED = 0, 1
@@ -80,9 +81,15 @@ def damaged(rng: random.Random, ask: Asking, block: int) -> None:
         ask.walk(0, len(noise), either(rng), rng.choice((0, 1, MANY)))
 
 
+def either_sort(rng: random.Random) -> int:
+    """Of images: counts or complex."""
+    return rng.choice((COUNTS, COMPLEX))
+
+
 def smallest(rng: random.Random, kind: int) -> Made:
+    images = {COUNTS: make.image_plan(2, 3, rng.choice((0, 2)), 200), COMPLEX: make.image_plan(2, 2, rng.choice((0, 2)), 430, COMPLEX)}
     plans = {VOLUME: make.volume_plan(3), LEADER: make.leader_shape(rng, 0, 1 << rng.randrange(11)), TRAILER: make.trailer_plan(),
-             IMAGE: make.image_plan(2, 3, rng.choice((0, 2)), 200)}
+             IMAGE: images[either_sort(rng)]}
     return make.make(rng, plans[kind])
 
 
@@ -123,7 +130,7 @@ def off(rng: random.Random, number: int) -> Iterator[int]:
 
 
 def states(rng: random.Random, ask: Asking, block: int) -> None:
-    """A good state with each of its 42 numbers altered; the walk, its budget of 0, and the start of each."""
+    """A good state with each of its 43 numbers altered; the walk, its budget of 0, and the start of each."""
     base = make.good_state_of(rng, KINDS[block % 4]) if block % 3 else make.random_file(rng, KINDS[block % 4]).state(1)
     ask.hold(rng.randbytes(40))
     ask.set_state(base)
@@ -147,7 +154,7 @@ def begins(rng: random.Random, ask: Asking, block: int) -> None:
     """Kinds that there are and kinds that there are not, over any state."""
     for kind in (*range(7), 255, 256, 257, 2 ** 32 + 1, 2 ** 32 + 3, *HUGE, rng.randrange(2 ** 64)):
         ask.set_state(make.any_state(rng))
-        ask.begin(kind, rng.choice((42, 42, 43, 60)), rng.choice((5, 5, 6, 9)))
+        ask.begin(kind, rng.choice((STATE, STATE, STATE + 1, 60)), rng.choice((5, 5, 6, 9)))
         ask.start()
         ask.walk(0, 0, either(rng), rng.choice((0, 1)))
 
@@ -155,12 +162,12 @@ def begins(rng: random.Random, ask: Asking, block: int) -> None:
 def far(rng: random.Random, ask: Asking, block: int) -> None:
     """States deep in a huge image, so that places pass 32 bits, with the bytes of their next record alone."""
     size = rng.choice((4_300, 6_000, 12_192)) if block % 12 else rng.choice((99_999, 999_999))
-    n, s = rng.randint(900_000, 999_999), rng.choice((0, 7))
-    w = rng.choice((1, 3, (size - 192 - s) // 2))
+    n, s, sort = rng.randint(900_000, 999_999), rng.choice((0, 7)), either_sort(rng)
+    w = rng.choice((1, 3, (size - make.AHEAD[sort] - s) // make.GROUP[sort]))
     line = rng.randint(2 ** 32 // size + 1, n) if n * size > 2 ** 32 else n
-    plan = make.image_plan(n, w, s, size)
+    plan = make.image_plan(n, w, s, size, sort)
     maker = make.Maker(rng, plan)
-    maker.record((50, 11, 18, 20), size)
+    maker.record((50, make.LINE_CODE[sort], 18, 20), size)
     maker.line_parts(line, make.random_fills(rng, w))
     ask.hold(bytes(maker.data) + b'\0')
     ask.put(0, (line + 1).to_bytes(4, 'big'))
@@ -168,7 +175,7 @@ def far(rng: random.Random, ask: Asking, block: int) -> None:
     state[PASSED] = line
     ask.set_state(state)
     ask.start()
-    for place, text in ((0, b''), (0, b'\1'), (6, b'\0'), (8, b'\1'), (12, b'\7'), (19, b'\2'), (20, b'\xff' * 4), (28, b'\0\1')):
+    for place, text in ((0, b''), (0, b'\1'), (5, bytes((21 - make.LINE_CODE[sort],))), (6, b'\0'), (8, b'\1'), (12, b'\7'), (19, b'\2'), (20, b'\xff' * 4), (28, b'\0\1')):
         old = ask.put(place, text)
         for length in {size + 1, size, size - 1, 12, rng.choice((0, 5, 11, 13, 32))}:
             ask.walk(0, length, either(rng), rng.choice((1, MANY)))
@@ -314,25 +321,92 @@ def wide_line(rng: random.Random, ask: Asking) -> None:
     for line in (1, plan[N], plan[N] + 1, rng.randint(1, plan[N])):
         ask.line(0, len(first), line)
         ask.row(0, len(first), line, 3)
+        ask.complex_row(0, len(first), line, 3)
+        ask.sample(0, len(first), line, rng.choice((0, MANY)))
+        ask.power(0, len(first), line, rng.choice((0, MANY)))
 
 
 def rows(rng: random.Random, ask: Asking, block: int) -> None:
-    """Row copies into rows too short, just long enough, and longer; on waits and refusals too."""
+    """Row copies into rows too short, just long enough, and longer; on waits and refusals too; of counts and of complex samples."""
     made, data = an_image(rng)
     ask.hold(data)
     size, w = len(data), made.plan[W]
+    for copy, each in ((ask.row, 1), (ask.complex_row, 2)):
+        for line, shown in enumerate(made.lines, start=1):
+            count = each * len(shown.pixels)
+            for row_len in {0, count - 1, count, count + 1, count // 2, each * w, each * w + 5, rng.randint(0, each * w)} - {-1}:
+                copy(0, size, line, row_len)
+            copy(0, rng.randint(0, size), line, each * w)
+        for line in (0, made.plan[N] + 1, rng.choice(HUGE)):
+            copy(0, size, line, rng.choice((0, each * w)))
+    if block % 20 == 0:
+        longer = make.make_image(rng, make.image_plan(1, 6_000, 0, sort=block // 20 % 2), [(0, 6_000, 0)])
+        ask.hold(longer.data)
+        for row_len in (5_999, 6_000, 6_001, 11_999, 12_000, 12_001):
+            ask.row(0, len(longer.data), 1, row_len)
+            ask.complex_row(0, len(longer.data), 1, row_len)
+
+
+def indices(rng: random.Random, count: int) -> set[int]:
+    """Of samples that there are, and that there are not; some that are one only in 32 bits, or whose eightfold wraps."""
+    few = (*range(min(count, 3)), count - 1, count, count + 1, rng.randint(0, count), 2 ** 32 + rng.randint(0, count), 2 ** 61 + count // 2)
+    return {*few, rng.choice(HUGE), MANY} - {-1}
+
+
+def with_data(rng: random.Random, w: int) -> make.Fills:
+    """Fills of a line with data pixels, but for one in five."""
+    if rng.random() < 0.2:
+        return make.random_fills(rng, w)
+    left = rng.randint(0, w - 1)
+    shown = rng.randint(1, w - left)
+    return left, shown, w - left - shown
+
+
+def samples_and_powers(rng: random.Random, ask: Asking, block: int) -> None:
+    """Samples and powers of both sorts: every line, lines that there are not, damaged images, cut ones, rules broken."""
+    plan = make.random_image_plan(rng, block % 2)
+    made = make.make_image(rng, plan, [with_data(rng, plan[W]) for _ in range(plan[N])])
+    data = make.damage(rng, made) if rng.random() < 0.3 else made.data
+    ask.hold(data)
+    size = len(data)
     for line, shown in enumerate(made.lines, start=1):
         count = len(shown.pixels)
-        for row_len in {0, count - 1, count, count + 1, w, w + 5, rng.randint(0, w)} - {-1}:
-            ask.row(0, size, line, row_len)
-        ask.row(0, rng.randint(0, size), line, w)
-    for line in (0, made.plan[N] + 1, rng.choice(HUGE)):
-        ask.row(0, size, line, rng.choice((0, w)))
-    if block % 20 == 0:
-        longer = make.make_image(rng, make.image_plan(1, 6_000, 0), [(0, 6_000, 0)])
-        ask.hold(longer.data)
-        for row_len in (5_999, 6_000, 6_001):
-            ask.row(0, len(longer.data), 1, row_len)
+        for index in indices(rng, count):
+            ask.sample(0, size, line, index)
+            ask.power(0, size, line, index)
+        cut = rng.choice((made.starts[line + 1] - 1, made.starts[line], rng.randint(0, size)))
+        for one in (ask.sample, ask.power):
+            one(0, min(size, cut), line, rng.choice((0, count, MANY)))
+            one(0, size, rng.choice((0, made.plan[N] + 1, *HUGE)), rng.choice((0, MANY)))
+    for one in rng.sample(make.breaks(rng, made), 10):
+        if one.place + len(one.patch) <= size:
+            line = max(1, one.rank[0] - 1) + rng.choice((0, 0, 0, 1))
+            old = ask.put(one.place, one.patch)
+            ask.sample(0, size, line, rng.choice((0, MANY)))
+            ask.power(0, size, line, rng.choice((0, MANY)))
+            ask.complex_row(0, size, line, rng.choice((0, 2 * made.plan[W])))
+            ask.put(one.place, old)
+
+
+IN_LINE, IN_IMAGE = 64, 256  # samples
+
+
+def power_blocks() -> int:
+    """So many blocks ask every pair of make_powers.py."""
+    return -(-len(make_powers.vectors()) // IN_IMAGE)
+
+
+def powers(rng: random.Random, ask: Asking, block: int) -> None:
+    """The power of drawn pairs and edges, in images of a few lines, by make_powers.py; the block chooses the pairs."""
+    first = block % power_blocks() * IN_IMAGE
+    pairs = make_powers.vectors()[first:first + IN_IMAGE]
+    lines = [pairs[i:i + IN_LINE] for i in range(0, len(pairs), IN_LINE)]
+    fills = [(1, len(line), IN_LINE - len(line)) for line in lines]
+    made = make.make_image(rng, make.image_plan(len(lines), IN_LINE + 1, 2, sort=COMPLEX), fills, lines)
+    ask.hold(made.data)
+    for line, some in enumerate(lines, start=1):
+        for index in range(len(some)):
+            ask.power(0, made.starts[line + 1], line, index)
 
 
 def sets(rng: random.Random, ask: Asking, block: int) -> None:
@@ -364,7 +438,9 @@ def sets(rng: random.Random, ask: Asking, block: int) -> None:
 def listed_file(rng: random.Random, block: int) -> bytes:
     """An image, whole, damaged or cut; now and then one with lines too long to list, or as long as they may be."""
     if block % 10 == 9:
-        plan = make.image_plan(1, rng.choice((1, 16_280)), 0, rng.choice((32_768, 32_769, 32_770, 40_000)))
+        sort = either_sort(rng)
+        widest = (32_768 - make.AHEAD[sort]) // make.GROUP[sort]
+        plan = make.image_plan(1, rng.choice((1, widest)), 0, rng.choice((32_768, 32_769, 32_770, 40_000)), sort)
         data = make.make(rng, plan).data
         return data[:rng.choice((len(data), 720, 800))]
     made, data = an_image(rng)
@@ -433,7 +509,7 @@ def cards_built(rng: random.Random, ask: Asking, block: int) -> None:
     """Cards of scenes, into buffers of every length near the card's; either file damaged, or both, cut, or exchanged."""
     image, leader = make.random_file(rng, IMAGE), make.random_file(rng, LEADER)
     if block % 20 == 3:
-        image = make.make_image(rng, make.image_plan(300, 2, 0))  # more lines than a byte counts
+        image = make.make_image(rng, make.image_plan(300, 2, 0, sort=either_sort(rng)))  # more lines than a byte counts
     size = 17 + 13 * image.plan[N] + 10 * leader.records
     ones, others = [image.data, make.damage(rng, image), image.data + b'\0'], [leader.data, make.damage(rng, leader), leader.data + b'\0']
     ask.hold(b''.join(ones + others))
@@ -461,7 +537,7 @@ def arrays(rng: random.Random, ask: Asking, block: int) -> None:
     image, volume = make.random_file(rng, IMAGE), make.random_file(rng, VOLUME)
     ask.hold(made.data + image.data + volume.data)
     a, b = len(made.data), len(image.data)
-    for length in (*range(45), 50, 60):
+    for length in (*range(STATE + 3), 50, 60):
         answer_len = rng.choice((5, 5, 6, 8, rng.randrange(5)))
         ask.set_state(made.state(rng.randint(0, made.records)))
         ask.start(length)
@@ -476,6 +552,7 @@ def arrays(rng: random.Random, ask: Asking, block: int) -> None:
         ask.row(a, rng.choice((0, b, b)), rng.randint(0, 2), rng.choice((0, 3, image.plan[W])), answer_len)
         ask.set(a + b, rng.choice((0, len(volume.data))), volume.counts[:rng.choice((0, 9))], answer_len)
     card_arrays(rng, ask)
+    sample_arrays(rng, ask)
 
 
 def card_arrays(rng: random.Random, ask: Asking) -> None:
@@ -490,9 +567,21 @@ def card_arrays(rng: random.Random, ask: Asking) -> None:
         ask.card_build((0, a), (a, rng.choice((0, b, b))), rng.choice((0, size, size + 4)), answer_len)
 
 
+def sample_arrays(rng: random.Random, ask: Asking) -> None:
+    """A sample, a power and a complex row with answers of every length."""
+    image = make.random_image(rng, COMPLEX if rng.random() < 0.7 else COUNTS)
+    ask.hold(image.data)
+    for answer_len in range(8):
+        size, line = rng.choice((0, len(image.data), len(image.data))), rng.randint(0, image.plan[N])
+        for one in (ask.sample, ask.power):
+            one(0, size, line, rng.choice((0, 0, MANY)), answer_len)
+        ask.complex_row(0, size, line, rng.choice((0, 2 * image.plan[W])), answer_len)
+
+
 # sort: its share of a thousand cases
 SORTS: dict[Sort, int] = {
     whole: 60, broken: 150, damaged: 110, cuts: 150, pieces: 80, states: 110, begins: 5, far: 40, fields: 100, numbers: 60,
     lines: 60, rows: 40, sets: 25, listing: 10, arrays: 25, cards_read: 60, card_cuts: 30, card_numbers: 30, cards_built: 40,
+    samples_and_powers: 60, powers: 30,
 }
 BY_NAME: dict[str, Sort] = {sort.__name__: sort for sort in SORTS}

@@ -2,6 +2,7 @@
  * --wrap) and alters answers in the one way that the environment's WRONG names. The run must notice each. */
 #include "seobangyu.h"
 
+#include <math.h>
 #include <stdlib.h>
 #include <string.h>
 
@@ -18,6 +19,9 @@ uint64_t REAL(sbg_set)(const uint8_t *, size_t, const uint64_t *, size_t, uint64
 uint64_t REAL(sbg_card_build)(const uint8_t *, size_t, const uint8_t *, size_t, uint8_t *, size_t, uint64_t *, size_t);
 uint64_t REAL(sbg_card)(const uint8_t *, size_t, uint64_t *, size_t);
 uint64_t REAL(sbg_card_numbers)(const uint8_t *, size_t, uint64_t *, size_t, uint64_t *, size_t);
+uint64_t REAL(sbg_sample)(const uint8_t *, size_t, uint64_t, uint64_t, uint64_t *, size_t);
+uint64_t REAL(sbg_power)(const uint8_t *, size_t, uint64_t, uint64_t, uint64_t *, size_t);
+uint64_t REAL(sbg_complex_row)(const uint8_t *, size_t, uint64_t, uint32_t *, size_t, uint64_t *, size_t);
 
 static int wrong(const char *way) {
   const char *chosen = getenv("WRONG");
@@ -65,17 +69,21 @@ static void alter_walk(uint64_t *state, size_t state_len, uint64_t closed, uint6
   if (refused && answer[SBG_A] == 10 && wrong("refused-passes")) state[SBG_PASSED]++;
   if (refused && answer[SBG_A] == 9 && !closed && wrong("open-surplus-waits")) memset(answer, 0, 8 * SBG_ANSWER), answer[SBG_TAG] = SBG_WAIT;
   if (wrong("past-state") && state_len > SBG_STATE) state[SBG_STATE]++;
+  if (state[SBG_PASSED] == 1 && answer[SBG_COUNT] == 1 && wrong("sort-not-kept")) state[SBG_SORT] = 0;
 }
 
 uint64_t OURS(sbg_walk)(uint64_t *state, size_t state_len, const uint8_t *bytes, size_t len, uint64_t closed,
                         uint64_t budget, uint64_t *answer, size_t answer_len) {
-  uint64_t s = 0, from = REAL(sbg_start)(state, state_len);
+  uint64_t s = 0, sort = 0, from = REAL(sbg_start)(state, state_len);
   int hide = wrong("unused-s") && state_len >= SBG_STATE && state[SBG_KIND] < 3;
+  int hide_sort = wrong("unused-sort") && state_len >= SBG_STATE && state[SBG_KIND] != SBG_IMAGE;
   if (wrong("closed-8-bits")) closed &= 0xFF;
   if (wrong("budget-32-bits")) budget &= 0xFFFFFFFF;
   if (hide) s = state[SBG_S], state[SBG_S] = 0;
+  if (hide_sort) sort = state[SBG_SORT], state[SBG_SORT] = 0;
   uint64_t returned = REAL(sbg_walk)(state, state_len, bytes, len, closed, budget, answer, answer_len);
   if (hide) state[SBG_S] = s;
+  if (hide_sort) state[SBG_SORT] = sort;
   if (returned && wrong("fills-wrap")) wrap_fills(state, bytes, answer, from);
   if (returned) alter_walk(state, state_len, closed, answer);
   if (wrong("reads-past") && len > 1000 && closed) s = *(volatile const uint8_t *)(bytes + len);
@@ -99,19 +107,38 @@ uint64_t OURS(sbg_field)(const uint8_t *bytes, size_t len, uint64_t number, int6
   return altered(returned, answer, answer_len);
 }
 
-/* Pixels taken at 192, where L is larger than 192 + d + s. */
-static uint64_t start_at_192(const uint8_t *bytes, size_t len, uint64_t line, uint64_t left) {
-  uint64_t state[SBG_STATE], told[SBG_ANSWER];
+/* The plan of an image. */
+static void plan_of(const uint8_t *bytes, size_t len, uint64_t *state) {
+  uint64_t told[SBG_ANSWER];
   REAL(sbg_begin)(SBG_IMAGE, state, SBG_STATE, told, SBG_ANSWER);
   REAL(sbg_walk)(state, SBG_STATE, bytes, len, 0, 1, told, SBG_ANSWER);
-  return 720 + (line - 1) * state[SBG_L] + 192 + 2 * left;
+}
+
+/* Pixels taken at 192, where L is larger than 192 + d + s; and left fills of two bytes in complex lines too. */
+static void alter_view(const uint8_t *bytes, size_t len, uint64_t line, uint64_t *answer) {
+  uint64_t state[SBG_STATE], left = answer[SBG_C];
+  plan_of(bytes, len, state);
+  if (wrong("pixels-at-192")) answer[SBG_A] = 720 + (line - 1) * state[SBG_L] + 192 + 2 * left;
+  if (state[SBG_SORT] == 1 && wrong("left-fill-of-two-bytes")) answer[SBG_A] -= 6 * left;
 }
 
 uint64_t OURS(sbg_line)(const uint8_t *bytes, size_t len, uint64_t line, uint64_t *answer, size_t answer_len) {
   uint64_t returned = REAL(sbg_line)(bytes, len, line, answer, answer_len);
-  if (returned && answer[SBG_TAG] == SBG_SHOWN && wrong("pixels-at-192")) answer[SBG_A] = start_at_192(bytes, len, line, answer[SBG_C]);
+  if (returned && answer[SBG_TAG] == SBG_SHOWN) alter_view(bytes, len, line, answer);
   if (returned && answer[SBG_TAG] == SBG_SHOWN && wrong("left-is-right")) answer[SBG_C] = 0;
   return altered(returned, answer, answer_len);
+}
+
+static void tell(uint64_t *answer, uint64_t tag, uint64_t a, uint64_t b) {
+  memset(answer, 0, 8 * SBG_ANSWER);
+  answer[SBG_TAG] = tag;
+  answer[SBG_A] = a;
+  answer[SBG_B] = b;
+}
+
+/* A refusal that comes too early: with this number for the one given. */
+static int gives(uint64_t returned, const uint64_t *answer, uint64_t number) {
+  return returned && answer[SBG_TAG] == SBG_REFUSED && answer[SBG_A] == number;
 }
 
 uint64_t OURS(sbg_row)(const uint8_t *bytes, size_t len, uint64_t line, uint16_t *row, size_t row_len,
@@ -124,6 +151,7 @@ uint64_t OURS(sbg_row)(const uint8_t *bytes, size_t len, uint64_t line, uint16_t
   if (returned && answer[SBG_TAG] == SBG_REFUSED && row_len && wrong("refused-row")) row[0] = 0;
   if (copied && many == row_len && wrong("row-past")) *(volatile uint16_t *)(row + row_len) = 0;
   if (copied && many && wrong("row-ahead")) *(volatile uint16_t *)(row - 1) = 0;
+  if (gives(returned, answer, 23) && row_len == 0 && wrong("row-15-before-23")) tell(answer, SBG_REFUSED, 15, 0);
   return altered(returned, answer, answer_len);
 }
 
@@ -137,13 +165,6 @@ uint64_t OURS(sbg_set)(const uint8_t *bytes, size_t len, const uint64_t *counts,
     answer[SBG_TAG] = SBG_AGREES;
   }
   return altered(returned, answer, answer_len);
-}
-
-static void tell(uint64_t *answer, uint64_t tag, uint64_t a, uint64_t b) {
-  memset(answer, 0, 8 * SBG_ANSWER);
-  answer[SBG_TAG] = tag;
-  answer[SBG_A] = a;
-  answer[SBG_B] = b;
 }
 
 /* Fills that are at most w only because their sum wraps are let through. */
@@ -244,5 +265,89 @@ uint64_t OURS(sbg_card_build)(const uint8_t *image, size_t image_len, const uint
   uint64_t returned = REAL(sbg_card_build)(image, image_len, leader, leader_len, card, card_len, answer, answer_len);
   if (returned && answer[SBG_TAG] == SBG_BUILT) alter_built(card, card_len, answer);
   if (returned && answer[SBG_TAG] == SBG_REFUSED) alter_unbuilt(leader, leader_len, card, card_len, answer);
+  return altered(returned, answer, answer_len);
+}
+
+/* Samples, powers and complex rows ------------------------------------------------------------------------- */
+
+static int is_nan(uint64_t bits) { return (bits & 0x7FFFFFFF) > 0x7F800000; }
+static uint64_t quiet(uint64_t bits) { return is_nan(bits) ? bits | 0x00400000 : bits; }
+static uint64_t turned(uint64_t bits) { return __builtin_bswap32((uint32_t)bits); }
+
+static float number_of(uint64_t bits) {
+  uint32_t pattern = (uint32_t)bits;
+  float number;
+  memcpy(&number, &pattern, 4);
+  return number;
+}
+
+static uint64_t bits_of(float number) {
+  uint32_t pattern;
+  memcpy(&pattern, &number, 4);
+  return pattern;
+}
+
+uint64_t OURS(sbg_sample)(const uint8_t *bytes, size_t len, uint64_t line, uint64_t index, uint64_t *answer, size_t answer_len) {
+  if (wrong("sample-index-32-bits")) index &= 0xFFFFFFFF;
+  if (wrong("sample-from-1")) index--;
+  uint64_t returned = REAL(sbg_sample)(bytes, len, line, index, answer, answer_len), *a = answer + SBG_A, *b = answer + SBG_B;
+  if (returned && answer[SBG_TAG] == SBG_SAMPLE_COUNT && wrong("sample-count-low-first")) *a = (*a << 8 | *a >> 8) & 0xFFFF;
+  if (returned && answer[SBG_TAG] == SBG_SAMPLE_COMPLEX) {
+    uint64_t real = *a;
+    if (wrong("sample-parts-exchanged")) *a = *b, *b = real;
+    if (wrong("sample-low-byte-first")) *a = turned(*a), *b = turned(*b);
+    if (wrong("sample-nan-quieted")) *a = quiet(*a), *b = quiet(*b);
+    if (is_nan(*b) && wrong("sample-one-nan")) *b = 0x7FC00000;
+  }
+  if (gives(returned, answer, 36) && index == UINT64_MAX && wrong("sample-36-is-13")) *a = 13;
+  return altered(returned, answer, answer_len);
+}
+
+/* The power by another way than two products and a sum, each rounded once. */
+static void other_power(const uint8_t *bytes, size_t len, uint64_t line, uint64_t index, uint64_t *answer) {
+  uint64_t told[SBG_ANSWER];
+  REAL(sbg_sample)(bytes, len, line, index, told, SBG_ANSWER);
+  float real = number_of(told[SBG_A]), imaginary = number_of(told[SBG_B]);
+  volatile float one = real * real, other = imaginary * imaginary;
+  if (wrong("power-fused")) answer[SBG_A] = bits_of(fmaf(real, real, other));
+  if (wrong("power-fused-turned")) answer[SBG_A] = bits_of(fmaf(imaginary, imaginary, one));
+  if (wrong("power-in-double")) answer[SBG_A] = bits_of((float)((double)real * real + (double)imaginary * imaginary));
+  if (wrong("power-subnormals-lost") && answer[SBG_A] < 0x00800000) answer[SBG_A] = 0;
+}
+
+uint64_t OURS(sbg_power)(const uint8_t *bytes, size_t len, uint64_t line, uint64_t index, uint64_t *answer, size_t answer_len) {
+  uint64_t returned = REAL(sbg_power)(bytes, len, line, index, answer, answer_len), view[SBG_ANSWER];
+  if (returned && answer[SBG_TAG] == SBG_POWER) other_power(bytes, len, line, index, answer);
+  if (gives(returned, answer, 23) && wrong("power-36-before-23")) {
+    REAL(sbg_line)(bytes, len, line, view, SBG_ANSWER);
+    if (index >= view[SBG_B]) tell(answer, SBG_REFUSED, 36, 0);
+  }
+  if (gives(returned, answer, 13) && wrong("power-23-before-13")) tell(answer, SBG_REFUSED, 23, 0);
+  if (gives(returned, answer, 24) && wrong("power-of-any-part")) tell(answer, SBG_POWER, 0x7F800000, 0);
+  if (gives(returned, answer, 24) && wrong("power-24-has-a-record")) answer[SBG_B] = line + 1;
+  return altered(returned, answer, answer_len);
+}
+
+static void alter_complex_row(uint32_t *row, size_t row_len, size_t used) {
+  for (size_t i = 0; i < used; i += 2) {
+    uint32_t real = row[i];
+    if (wrong("complex-row-parts-exchanged")) row[i] = row[i + 1], row[i + 1] = real;
+    if (wrong("complex-row-low-byte-first")) row[i] = (uint32_t)turned(row[i]);
+    if (wrong("complex-row-nan-quieted")) row[i] = (uint32_t)quiet(row[i]), row[i + 1] = (uint32_t)quiet(row[i + 1]);
+  }
+  if (used < row_len && wrong("complex-row-tail")) row[used] = 0;
+  if (used == row_len && wrong("complex-row-past")) *(volatile uint32_t *)(row + row_len) = 0;
+}
+
+uint64_t OURS(sbg_complex_row)(const uint8_t *bytes, size_t len, uint64_t line, uint32_t *row, size_t row_len, uint64_t *answer,
+                               size_t answer_len) {
+  uint64_t returned = REAL(sbg_complex_row)(bytes, len, line, row, row_len, answer, answer_len);
+  if (returned && answer[SBG_TAG] == SBG_COPIED) {
+    alter_complex_row(row, row_len, 2 * answer[SBG_A]);
+    if (wrong("complex-row-counts-numbers")) answer[SBG_A] *= 2;
+  }
+  if (gives(returned, answer, 23) && row_len == 0 && wrong("complex-row-15-before-23")) tell(answer, SBG_REFUSED, 15, 0);
+  if (gives(returned, answer, 15) && row_len && wrong("complex-row-as-far-as-it-goes")) row[0] = 0;
+  if (gives(returned, answer, 23) && row_len && wrong("complex-row-before-it-judges")) row[0] = 0;
   return altered(returned, answer, answer_len);
 }
