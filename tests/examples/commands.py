@@ -8,7 +8,7 @@ commands build.
 import sys
 from contextlib import contextmanager
 from pathlib import Path
-from typing import Iterator
+from typing import Iterator, NamedTuple
 
 TESTS = Path(__file__).resolve().parent.parent
 sys.path.insert(0, str(TESTS / 'oracle'))  # for the makers too
@@ -91,7 +91,25 @@ def refused(number: int, record: int = 0, place: int = 0) -> str:
 
 FIRST = {VOLUME: ((192, 192, 18, 18), 360), LEADER: ((11, 192, 18, 18), 720),
          IMAGE: ((50, 192, 18, 18), 720), TRAILER: ((63, 192, 18, 18), 720)}
-POINTER, TEXT, LINE = (219, 192, 18, 18), (18, 192, 18, 18), (50, 11, 18, 20)
+POINTER, TEXT = (219, 192, 18, 18), (18, 192, 18, 18)
+
+
+class Sort(NamedTuple):
+    """A sort of images: its number in the plan, its text at 429, its bytes a group, the bytes ahead of the pixels, its lines' codes."""
+
+    number: int
+    text: str
+    group: int
+    ahead: int
+    line: tuple[int, ...]
+
+    def length(self, w: int, s: int, more: int) -> int:
+        """The length of a line's record: so many bytes more than the least."""
+        return self.ahead + self.group * w + s + more
+
+
+COUNTS = Sort(0, 'IU2 ', 2, 192, (50, 11, 18, 20))
+COMPLEX = Sort(1, 'C*8 ', 8, 412, (50, 10, 18, 20))  # document 02, No. 2
 
 
 def header(at: int, number: int, codes: tuple[int, ...], length: int) -> None:
@@ -140,16 +158,16 @@ def volume(pointers: int, filler: int = 32) -> File:
     return file
 
 
-def image_first(n: int, w: int = 3, s: int = 0, more: int = 0, filler: int = 0) -> File:
-    """An image's first record: L = 192 + d + s and so many more."""
+def image_first(n: int, w: int = 3, s: int = 0, more: int = 0, filler: int = 0, sort: Sort = COUNTS) -> File:
+    """An image's first record: L = 192 + d + s (412 + d + s of complex samples) and so many more."""
     fill(filler)
-    file, length = File(IMAGE), 192 + 2 * w + s + more
+    file, length = File(IMAGE), sort.length(w, s, more)
     file.put(181, f'{n:6}{length:6}')
-    file.put(225, '   2')
+    file.put(225, f'{sort.group:4}')
     file.put(233, f'   1{n:8}')
     file.put(249, f'{w:8}')
-    file.put(281, f'{2 * w:8}{s:4}')
-    file.put(429, 'IU2 ')
+    file.put(281, f'{sort.group * w:8}{s:4}')
+    file.put(429, sort.text)
     return file
 
 
@@ -163,11 +181,11 @@ def line_body(at: int, line: int, fills: Fills, over: int) -> None:
             put(at + byte, value)
 
 
-def image(n: int, w: int = 3, s: int = 0, more: int = 0, filler: int = 0) -> File:
+def image(n: int, w: int = 3, s: int = 0, more: int = 0, filler: int = 0, sort: Sort = COUNTS) -> File:
     """Left fills 0, 1, 2, .. by turns."""
-    file = image_first(n, w, s, more, filler)
+    file = image_first(n, w, s, more, filler, sort)
     for line in range(1, n + 1):
-        file.record(LINE, 192 + 2 * w + s + more)
+        file.record(sort.line, sort.length(w, s, more))
         left = (line - 1) % (w + 1)
         line_body(file.starts[-2], line, (left, w - left, 0), filler)
     return file

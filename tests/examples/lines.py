@@ -14,8 +14,8 @@ import sys
 from typing import Any, Callable, Sequence
 
 sys.dont_write_bytecode = True
-from commands import (HELD, LINE, MANY, TESTS, Fills, Patch, answers, ask, changed, draw, fill, header, held, image, image_first,  # noqa: E402
-                      line_body, put, refused, said, store, title, volume)
+from commands import (COMPLEX, COUNTS, HELD, MANY, TESTS, Fills, Patch, Sort, answers, ask, changed, draw, fill, header, held, image,  # noqa: E402
+                      image_first, line_body, put, refused, said, store, title, volume)
 import reader  # noqa: E402
 import make  # noqa: E402
 from reader import IMAGE, VOLUME  # noqa: E402
@@ -45,11 +45,12 @@ def row_said(row: Sequence[int]) -> str:
 
 
 def view(size: int, line: int, due: str = '') -> None:
-    """The oracle says where the data pixels start and how many there are; two bytes each are handed out."""
+    """The oracle says where the data pixels start and how many there are; two bytes each are handed out, or eight of complex ones."""
     assert size <= HELD
     data = bytes(held[:size])
+    seen = reader.viewed(data, line)
+    shown = data[seen.sample(0):seen.sample(seen.samples)] if isinstance(seen, reader.View) else b''
     answer = reader.line_view(data, line)
-    shown = data[answer[1]:answer[1] + 2 * answer[2]] if answer[0] == 'shown' else b''
     ask(f'l {size} {line}', said(answer) + pixels_said(shown), due)
 
 
@@ -89,10 +90,10 @@ def load(byte: int, data: bytes) -> None:
 class Scene:
     """An image from place 0 on. Places and samples are worked out here by document 01's words, without the oracle."""
 
-    def __init__(self, n: int, w: int = 3, s: int = 0, more: int = 0, filler: int = 0) -> None:
-        image_first(n, w, s, more, filler)
-        self.n, self.w, self.s = n, w, s
-        self.length = 192 + 2 * w + s + more
+    def __init__(self, n: int, w: int = 3, s: int = 0, more: int = 0, filler: int = 0, sort: Sort = COUNTS) -> None:
+        image_first(n, w, s, more, filler, sort)
+        self.n, self.w, self.s, self.sort = n, w, s, sort
+        self.length = sort.length(w, s, more)
         self.filler = filler
         self.fills: dict[int, Fills] = {}
 
@@ -108,11 +109,11 @@ class Scene:
 
     def pixels(self, line: int) -> int:
         """The place of the line's first pixel, filled or not: L - s - d bytes into the record."""
-        return self.start(line) + self.length - self.s - 2 * self.w
+        return self.start(line) + self.length - self.s - self.sort.group * self.w
 
     def put(self, line: int, fills: Fills, pixels: bytes = b'') -> None:
         """The line's record, with these bytes for its w pixels."""
-        header(self.start(line), line + 1, LINE, self.length)
+        header(self.start(line), line + 1, self.sort.line, self.length)
         self.body(line, fills)
         load(self.pixels(line) + 1, pixels)
 
@@ -126,12 +127,18 @@ class Scene:
         return [(self.start(line) + byte, what) for byte, what in patches]
 
     def shows(self, line: int, size: int | None = None, rows: Sequence[int] | None = None) -> None:
-        """The line is shown and copied; rows: samples lent beside those needed, fewer than 0 is 15."""
+        """The line is shown and copied; rows: samples lent beside those needed, fewer than 0 is 15.
+
+        A complex line is shown, and its row copy is 23 whatever row is lent."""
         size = self.size if size is None else size
         left, data, _ = self.fills[line]
-        first = self.pixels(line) + 2 * left
-        shown = bytes(held[first:first + 2 * data])
+        first = self.pixels(line) + self.sort.group * left
+        shown = bytes(held[first:first + self.sort.group * data])
         view(size, line, f'SHOWN {first} {data} {left}' + pixels_said(shown))
+        if self.sort == COMPLEX:
+            for many in (0, data, 4 * data + 1):
+                copy(size, line, many, due=refused(23) + row_said([OLD] * many))
+            return
         samples = [256 * high + low for high, low in zip(shown[::2], shown[1::2])]
         for extra in (0, 1) if rows is None else rows:
             row = [OLD] * (data + extra)
@@ -436,6 +443,46 @@ def long_lines() -> None:
         stops(720, line, refused(13))
 
 
+# Complex images ------------------------------------------------------------------------------------------------
+
+
+def complex_lines() -> None:
+    title('a complex image: n = 2, w = 3, s = 0, L = 436: its views skip a left fill of eight bytes a pixel; the row copy is 23')
+    scene = Scene(2, sort=COMPLEX)
+    scene.put(1, (0, 3, 0), letters(24))
+    scene.put(2, (1, 2, 0), letters(24, 50))
+    assert scene.size == 1592
+    view(1592, 1, 'SHOWN 1132 3 0 PIXELS 24')
+    view(1592, 2, 'SHOWN 1576 2 1 PIXELS 16')
+    copy(1592, 1, 3, due='REFUSED 23 RECORD 0 AT 0 ROW 7 7 7')
+    copy(1592, 1, 0, due='REFUSED 23 RECORD 0 AT 0 ROW')
+    copy(1592, 2, 24, 9, due='REFUSED 23 RECORD 0 AT 0 ROW' + ' 9' * 24)
+    title('the line\'s own comes before 23')
+    for size, line, due in ((719, 1, 'WAIT 1'), (720, 1, 'WAIT 436'), (1155, 1, 'WAIT 1'), (1156, 2, 'WAIT 436'), (1592, 0, refused(13)),
+                            (1592, 3, refused(13)), (720, MANY, refused(13))):
+        stops(size, line, due)
+    for byte, what, number, place in ((1157, 9, 3, 1156), (1162, b'\x0b', 4, 1160), (1165, 437, 5, 1164), (1169, 1, 10, 1168), (1173, 0, 10, 1172),
+                                      (1177, 4294967295, 10, 1176)):
+        with changed((byte, what)):
+            stops(1592, 2, refused(number, 3, place))
+            scene.shows(1)
+    for byte, text, number, place in ((429, 'C*8b', 8, 428), (429, 'IU2 ', 7, 224), (225, '   2', 7, 224), (281, '       6', 8, 0), (187, '   435', 8, 0)):
+        with changed((byte, text)):
+            stops(1592, 1, refused(number, 1, place))
+
+
+def complex_places() -> None:
+    for w, s, more in ((1, 0, 0), (3, 1, 0), (3, 0, 1), (2, 5, 8), (7, 9, 63)):
+        title(f'complex, w = {w}, s = {s}, L = 412 + d + s + {more}: pixels start L - s - d bytes into the record')
+        scene = Scene(3, w, s, more, 255, COMPLEX)
+        for line, some in ((1, (0, w, 0)), (2, (w // 2, w - w // 2, 0)), (3, (w, 0, 0))):
+            scene.put(line, some, letters(8 * w, 97 + line))
+        for line in (1, 2, 3):
+            scene.shows(line)
+            scene.shows(line, scene.end(line))
+            stops(scene.end(line) - 1, line, 'WAIT 1')
+
+
 # Sets ----------------------------------------------------------------------------------------------------------
 
 
@@ -635,7 +682,8 @@ def drawn_volumes() -> None:
 
 def main() -> int:
     for part in (worked_examples, samples, fills, places, no_pixels, first_waits, first_refusals, line_numbers, line_waits, line_faults, other_lines,
-                 rows, fifteen_last, far_lines, long_lines, sets, written_counts, directory_faults, directory_cuts, drawn_images, drawn_volumes):
+                 rows, fifteen_last, far_lines, long_lines, complex_lines, complex_places, sets, written_counts, directory_faults,
+                 directory_cuts, drawn_images, drawn_volumes):
         part()
     return store(HOME)
 

@@ -12,8 +12,8 @@ from dataclasses import dataclass
 from typing import Sequence
 
 sys.dont_write_bytecode = True
-from commands import (HELD, LINE, MANY, TESTS, File, Fills, Patch, answers, ask, changed, fill, held, image, image_first, keep,  # noqa: E402
-                      line_body, put, refused, store, title, volume)
+from commands import (COMPLEX, COUNTS, HELD, MANY, TESTS, File, Fills, Patch, Sort, answers, ask, changed, fill, held, image,  # noqa: E402
+                      image_first, keep, line_body, put, refused, store, title, volume)
 import reader  # noqa: E402
 
 CRATES = TESTS.parent / 'crates'
@@ -63,19 +63,19 @@ def ending(records: int, size: int) -> str:
 LISTED = [heading(2), '1 0 3 0', '2 1 2 0']  # of the printed image, before its closing row
 
 
-def lined(w: int, fills: Sequence[Fills], s: int = 0, more: int = 0, filler: int = 0, n: int = 0) -> File:
+def lined(w: int, fills: Sequence[Fills], s: int = 0, more: int = 0, filler: int = 0, n: int = 0, sort: Sort = COUNTS) -> File:
     """An image whose lines have these fills; n: lines that it promises, if not as many."""
-    file = image_first(n or len(fills), w, s, more, filler)
+    file = image_first(n or len(fills), w, s, more, filler, sort)
     for line, some in enumerate(fills, start=1):
-        file.record(LINE, 192 + 2 * w + s + more)
+        file.record(sort.line, sort.length(w, s, more))
         line_body(file.starts[-2], line, some, filler)
     return file
 
 
-def shows(w: int, fills: Sequence[Fills], s: int = 0, more: int = 0, filler: int = 0) -> File:
+def shows(w: int, fills: Sequence[Fills], s: int = 0, more: int = 0, filler: int = 0, sort: Sort = COUNTS) -> File:
     """Such an image is listed whole; places are worked out here."""
-    file = lined(w, fills, s, more, filler)
-    size = 720 + len(fills) * (192 + 2 * w + s + more)
+    file = lined(w, fills, s, more, filler, sort=sort)
+    size = 720 + len(fills) * sort.length(w, s, more)
     rows = [row(line, some) for line, some in enumerate(fills, start=1)]
     lists(size, [heading(len(fills), w), *rows, ending(1 + len(fills), size)])
     return file
@@ -106,6 +106,20 @@ def printed_examples() -> None:
         lists(1116 + more, [*LISTED, 'REFUSED 9 RECORD 4 AT 1116'])
     title('nothing at all')
     lists(0, ['REFUSED 2 RECORD 1 AT 0'])
+
+
+def complex_examples() -> None:
+    title('a complex image is listed as one of counts: document 02, No. 2')
+    file = shows(3, [(0, 3, 0), (1, 2, 0)], sort=COMPLEX)
+    assert cases[-1].rows == b'IMAGE 2 LINES 3 PIXELS\n1 0 3 0\n2 1 2 0\nCOMPLETE 3 RECORDS 1592 BYTES\n'
+    lists(file.size + 1, [*LISTED, 'REFUSED 9 RECORD 4 AT 1592'])
+    with changed((1162, b'\x0b')):
+        lists(file.size, [*LISTED[:2], 'REFUSED 4 RECORD 3 AT 1160'])
+    with changed((429, 'C*8b')):
+        lists(file.size, ['REFUSED 8 RECORD 1 AT 428'])
+    with changed((225, '   2')):
+        lists(file.size, ['REFUSED 7 RECORD 1 AT 224'])
+    shows(2, [(2, 0, 0), (0, 1, 1), (0, 0, 2)], 7, 3, 255, COMPLEX)
 
 
 # The first record --------------------------------------------------------------------------------------
@@ -272,8 +286,8 @@ def many_lines() -> None:
 
 
 def make_all() -> None:
-    for part in (printed_examples, first_refusals, cuts, line_faults, lines_that_are_no_more, longest, too_long, smallest, fills, suffixes, many_digits,
-                 many_lines):
+    for part in (printed_examples, complex_examples, first_refusals, cuts, line_faults, lines_that_are_no_more, longest, too_long, smallest, fills,
+                 suffixes, many_digits, many_lines):
         part()
 
 

@@ -7,20 +7,21 @@ an example says what is `due`, that was worked out here from document 01, and th
 
   #, c, p, b, q   as in commands.py
   g KIND  begin     w FROM LENGTH CLOSED BUDGET  walk    t FROM LENGTH CLOSED  step
-  s  the next record's start      v  the state's 42 numbers      n INDEX VALUE  set one of them"""
+  s  the next record's start      v  the state's 43 numbers      n INDEX VALUE  set one of them"""
 import sys
 from contextlib import contextmanager
 from typing import Iterator
 
 sys.dont_write_bytecode = True
-from commands import (FIRST, HELD, MANY, TESTS, File, Patch, answers, ask, changed, commands, draw, fill, held, image, put, refused, said,  # noqa: E402
-                      store, title, volume)
+from commands import (COMPLEX, COUNTS, FIRST, HELD, MANY, TESTS, File, Patch, Sort, answers, ask, changed, commands, draw, fill, held,  # noqa: E402
+                      image, put, refused, said, store, title, volume)
 import reader  # noqa: E402
-from reader import D, FACILITIES, IMAGE, KIND, L, LEADER, N, PASSED, POINTERS, S, SLOTS, TRAILER, VOLUME, W  # noqa: E402
+from reader import D, FACILITIES, IMAGE, KIND, L, LEADER, N, PASSED, POINTERS, S, SLOTS, SORT, TRAILER, VOLUME, W  # noqa: E402
 
 HOME = TESTS.parent / 'crates' / 'try_walk'
 OPEN, CLOSED = 0, 1
-state: list[int] = [0] * 42
+ALL = 43  # numbers of a state
+state: list[int] = [0] * ALL
 
 
 # The commands ---------------------------------------------------------------------------------------
@@ -61,7 +62,7 @@ def show(due: str = '') -> None:
 
 
 def number(index: int, value: int) -> None:
-    assert 0 <= index < 42 and 0 <= value < 2 ** 64
+    assert 0 <= index < ALL and 0 <= value < 2 ** 64
     commands.append(b'n %d %d' % (index, value))
     state[index] = value
 
@@ -200,7 +201,7 @@ def put_back(wanted: list[int]) -> bool:
 
 def fresh(kind: int) -> None:
     """The fresh state of the kind."""
-    if not put_back([kind] + [0] * 41):
+    if not put_back([kind] + [0] * (ALL - 1)):
         begin(kind, 'BEGUN')
 
 
@@ -222,11 +223,11 @@ def begun() -> None:
     title('begin: kinds 1 to 4, and every other is refusal 1 with all zeros')
     for kind in (1, 2, 3, 4):
         begin(kind, 'BEGUN')
-        show(f'STATE {kind}' + ' 0' * 41)
+        show(f'STATE {kind}' + ' 0' * 42)
         start(0)
     for kind in (0, 5, 6, 255, 256, 257, 2 ** 32 + 1, 2 ** 63 + 2, MANY):
         begin(kind, 'REFUSED 1 RECORD 0 AT 0')
-    show('STATE' + ' 0' * 42)
+    show('STATE' + ' 0' * 43)
     start(0)
     title('the state after it is bad: 11')
     fill(32)
@@ -234,10 +235,10 @@ def begun() -> None:
         walk(size, closed, budget, due=refused(11) + ' COUNT 0 PASSED 0')
     title('begin does not look at the state it is called on')
     for kind in (4, 3, 9, 2, 1):
-        for index, value in ((0, MANY), (1, 7), (2, 3), (20, 5), (41, MANY)):
+        for index, value in ((0, MANY), (1, 7), (2, 3), (20, 5), (41, MANY), (42, 1)):
             number(index, value)
         begin(kind, 'BEGUN' if kind < 5 else 'REFUSED 1 RECORD 0 AT 0')
-        show(f'STATE {kind if kind < 5 else 0}' + ' 0' * 41)
+        show(f'STATE {kind if kind < 5 else 0}' + ' 0' * 42)
 
 
 def worked_examples() -> None:
@@ -250,7 +251,7 @@ def worked_examples() -> None:
     file = image(2)
     assert file.size == 1116
     whole(file, 'COMPLETE COUNT 3 PASSED 3')
-    show('STATE 3 3' + ' 0' * 35 + ' 2 198 3 6 0')
+    show('STATE 3 3' + ' 0' * 35 + ' 2 198 3 6 0 0')
     start(1116)
     title('open files are never complete')
     whole(file, 'WAIT 0 COUNT 3 PASSED 3', closed=OPEN)
@@ -408,7 +409,7 @@ def good(*changes: tuple[int, int], due: int, place: int | None = None) -> None:
 
 
 def state_of(kind: int, passed: int, plan: dict[int, int]) -> list[int]:
-    return [{KIND: kind, PASSED: passed, **plan}.get(index, 0) for index in range(42)]
+    return [{KIND: kind, PASSED: passed, **plan}.get(index, 0) for index in range(ALL)]
 
 
 def leader_numbers(slots: Pairs, facilities: Pairs) -> dict[int, int]:
@@ -421,8 +422,8 @@ def leader_numbers(slots: Pairs, facilities: Pairs) -> dict[int, int]:
     return numbers
 
 
-def image_numbers(n: int, length: int, w: int, s: int) -> dict[int, int]:
-    return {N: n, L: length, W: w, D: 2 * w, S: s}
+def image_numbers(n: int, length: int, w: int, s: int, sort: Sort = COUNTS) -> dict[int, int]:
+    return {N: n, L: length, W: w, D: sort.group * w, S: s, SORT: sort.number}
 
 
 # a state inside a file of each kind, and its planned total
@@ -439,19 +440,19 @@ def every_number() -> None:
         title(f'{KINDS[kind]}: each number of a good state at 2^64 - 1')
         hold(inside)
         step(0, OPEN, 0, 'WAIT 0' if kind == TRAILER else 'WAIT 12')
-        for index in range(42):
+        for index in range(ALL):
             bad((index, MANY), shown=index in (0, 1, 2 + 9 * kind))
         title(f'{KINDS[kind]}: 1 where it must be 0, every third number')
-        for index in range(2 + kind % 3, 42, 3):
+        for index in range(2 + kind % 3, ALL, 3):
             if inside[index] == 0:
                 bad((index, 1))
-        unused = [index for index in range(2, 42) if inside[index] == 0]
+        unused = [index for index in range(2, ALL) if inside[index] == 0]
         bad((unused[0], MANY), (unused[-1], 1))
         bad((unused[1], 2 ** 63), (unused[-2], 2 ** 63))
     for kind in KINDS:
         title(f'{KINDS[kind]}: a plan before the first record, and a first record without one')
         fresh(kind)
-        for index in range(1 + kind, 42, 4):
+        for index in range(1 + kind, ALL, 4):
             bad((index, 1), shown=index > 37)
         if kind == TRAILER:
             good((PASSED, 1), due=0, place=720)
@@ -717,7 +718,7 @@ def volumes() -> None:
         title(f'volume of {pointers} pointers')
         file = volume(pointers)
         complete(file)
-        show(f'STATE 1 {pointers + 2} {pointers}' + ' 0' * 39)
+        show(f'STATE 1 {pointers + 2} {pointers}' + ' 0' * 40)
         start(360 * (pointers + 2))
         whole(file, f'WAIT 0 COUNT {pointers + 2}', closed=OPEN)
         for other in (pointers - 1, pointers + 1):  # another count than there are pointers: the first class text that is not due
@@ -851,7 +852,7 @@ def leader_files() -> None:
     file = fullest_leader()
     assert file.size == 7000 and file.records == 50
     complete(file)
-    show('STATE 2 50 0 1 4096 1 1620 9 12 9 12 9 12 9 12' + ' 1 12' * 11 + ' 0' * 5)
+    show('STATE 2 50 0 1 4096 1 1620 9 12 9 12 9 12 9 12' + ' 1 12' * 11 + ' 0' * 6)
     start(7000)
     whole(file, 'WAIT 0 COUNT 50 PASSED 50', closed=OPEN)
     whole(file, 'REFUSED 9 RECORD 51 AT 7000 COUNT 50 PASSED 50', 7001)
@@ -860,7 +861,7 @@ def leader_files() -> None:
     title('the smallest leader')
     file = leader({}, {})
     complete(file)
-    show('STATE 2 2 0 1 4096' + ' 0' * 37)
+    show('STATE 2 2 0 1 4096' + ' 0' * 38)
     whole(file, 'WAIT 0 COUNT 2 PASSED 2', closed=OPEN)
     title('each slot alone')
     for slot in (2, 3, 4, 5, 7):
@@ -989,7 +990,7 @@ def image_files() -> None:
     for n, w, s, more in ((1, 1, 0, 0), (1, 3, 5, 0), (2, 3, 0, 1), (3, 1, 0, 100), (5, 10, 7, 63), (7, 2, 1, 0), (1, 29904, 0, 0), (2, 10, 9999, 17)):
         file = image(n, w, s, more)
         complete(file)
-        show(f'STATE 3 {n + 1}' + ' 0' * 35 + f' {n} {192 + 2 * w + s + more} {w} {2 * w} {s}')
+        show(f'STATE 3 {n + 1}' + ' 0' * 35 + f' {n} {192 + 2 * w + s + more} {w} {2 * w} {s} 0')
         whole(file, f'REFUSED 9 RECORD {n + 2} AT {file.size}', file.size + 1, OPEN)
     title('an image of 40 lines: each line in turn has a wrong number')
     file = image(40)
@@ -1004,6 +1005,93 @@ def image_files() -> None:
     for line in (2, 3, 20, 39, 40):
         with changed((720 + 198 * (line - 1) + 25, 7)):
             whole(file, refused(10, line + 1, 720 + 198 * (line - 1) + 20) + f' COUNT {line} PASSED {line}')
+
+
+# Complex images ----------------------------------------------------------------------------------------
+
+OTHER_TEXTS = ('C*8b', 'C*8\0', 'c*8 ', ' C*8', 'C*4 ', 'C*16', 'C8* ', 'I*2 ', 'IU2b', '    ')
+
+
+def complex_images() -> None:
+    title('a complex image: n = 2, w = 3, s = 0, L = 412 + 24')
+    file = image(2, sort=COMPLEX)
+    assert file.size == 1592
+    whole(file, 'COMPLETE COUNT 3 PASSED 3')
+    show('STATE 3 3' + ' 0' * 35 + ' 2 436 3 24 0 1')
+    start(1592)
+    whole(file, 'WAIT 0 COUNT 3 PASSED 3', closed=OPEN)
+    whole(file, 'REFUSED 9 RECORD 4 AT 1592 COUNT 3 PASSED 3', 1593)
+    whole(file, 'REFUSED 2 RECORD 3 AT 1156 COUNT 2 PASSED 2', 1591)
+    for record in (2, 3):
+        header_faults(file, record)
+    title('complex images of several sizes')
+    for n, w, s, more in ((1, 1, 0, 0), (2, 3, 5, 1), (3, 10, 7, 63), (1, 8000, 20, 0), (2, 2, 9999, 17)):
+        file = image(n, w, s, more, sort=COMPLEX)
+        complete(file)
+        show(f'STATE 3 {n + 1}' + ' 0' * 35 + f' {n} {412 + 8 * w + s + more} {w} {8 * w} {s} 1')
+
+
+def sorts_of_images() -> None:
+    """What of one sort may not stand beside the other's text."""
+    for sort, other in ((COMPLEX, COUNTS), (COUNTS, COMPLEX)):
+        file = image(2, sort=sort)
+        title(f'image with the text {sort.text}: another text, and the other sort beside it')
+        for text in OTHER_TEXTS:
+            broken(file, 1, (8, 429), (429, text))
+        broken(file, 1, (8, 429), (429, 'C*8b'), (225, '   x'))
+        broken(file, 1, (7, 225), (429, other.text))
+        broken(file, 1, (7, 225), (225, f'{other.group:4}'))
+        broken(file, 1, (7, 225), (429, other.text), (281, f'{3 * other.group:8}'), (187, '   999'))
+        broken(file, 1, (8, 1), (429, other.text), (225, f'{other.group:4}'))
+        broken(file, 1, (8, 1), (281, f'{3 * other.group:8}'), (187, '   999'))
+        fits(file, 1, (429, other.text), (225, f'{other.group:4}'), (281, f'{3 * other.group:8}'), (187, '   999'),
+             plan=image_numbers(2, 999, 3, 0, other))
+        broken(file, 2, (4, 5), (6, bytes(other.line[1:2])))
+        broken(file, 3, (4, 5), (6, bytes(other.line[1:2])))
+
+
+def complex_agreements() -> None:
+    file = image(2, sort=COMPLEX)
+    title('complex image: d = 8w')
+    for d in (3, 6, 12, 23, 25, 48):
+        broken(file, 1, (8, 1), (281, f'{d:8}'), (187, '   999'))
+    title('complex image: 412 + d + s at most L')
+    for w, s, length in ((3, 0, 436), (1, 0, 420), (3, 1, 437), (1, 9999, 10419), (124948, 3, 999999), (124948, 4, 1000000), (12499999, 0, 1000000)):
+        numbers = ((249, f'{w:8}'), (281, f'{8 * w:8}{s:4}'))
+        if length <= 999999:
+            fits(file, 1, *numbers, (187, f'{length:6}'), plan=image_numbers(2, length, w, s, COMPLEX))
+        broken(file, 1, (8, 1), *numbers, (187, f'{length - 1:6}'))
+    broken(file, 1, (8, 1), (187, '   216'))  # 192 + d
+    title('complex image: lines')
+    for record in (2, 3):
+        for byte, value in ((13, 9), (17, 0), (21, 3), (25, 24), (29, 7)):
+            broken(file, record, (10, min(byte, 21)), (byte, value))
+        broken(file, record, (10, 21), *zip((21, 25, 29), (4294967295, 4, 0)))
+
+
+def complex_states() -> None:
+    title('a complex image: its numbers handed in, the sort 0 or 1')
+    hold(state_of(IMAGE, 1, image_numbers(5, 600, 10, 7, COMPLEX)))
+    good(due=12, place=720)
+    for index, values in ((SORT, (0, 2, 3, 256, 257, 2 ** 32 + 1, 2 ** 63 + 1, MANY)), (L, (498, 0, 1000000)), (W, (9, 11, 40, 2 ** 61 + 10)),
+                          (D, (20, 79, 81, 79 + 2 ** 32)), (S, (109, 10000)), (N, (0, 1000000))):
+        for value in values:
+            bad((index, value))
+    good((L, 499), due=12)
+    good((S, 108), due=12)
+    good((SORT, 0), (D, 20), due=12)
+    bad((SORT, 2), (D, 20))
+    bad((SORT, 1), (D, 20), (L, 999999))
+    title('a complex image: its last line, with places past 32 bits')
+    fill(0)
+    hold(state_of(IMAGE, 999999, image_numbers(999999, 60000, 7448, 4, COMPLEX)))
+    start(59999880720)
+    for byte, value in ((1, 1000000), (5, 0x320A1214), (9, 60000), (13, 999999), (17, 1), (21, 4), (25, 7444)):
+        put(byte, value)
+    with changed((5, 0x320B1214)):
+        step(60000, by_turns(), due='REFUSED 4 RECORD 1000000 AT 59999880724 COUNT 0 PASSED 999999')
+    step(60000, OPEN, due='PAUSE COUNT 1 PASSED 1000000')
+    start(59999940720)
 
 
 # Two faults --------------------------------------------------------------------------------------------
@@ -1310,9 +1398,9 @@ def drawn() -> None:
 def main() -> int:
     for part in (begun, worked_examples, refusals_of_volumes, refusals_of_leaders, refusals_of_images, refusals_of_trailers, headers, other_kinds,
                  volumes, class_texts, pointer_numbers, leader_files, slot_order, admitted_slots, empty_slots, facility_pairs, listed_in_slots,
-                 image_files, image_fields, agreements, line_bodies, orders_of_headers, orders_of_shortness, orders_of_bodies, orders_of_images,
-                 orders_of_records, boundaries, trailer_cuts, budgets, pieces, pieces_by_budget, asked_again, bodies_again, unjudged,
-                 bad_before_all, every_number, kinds_and_totals, ends_of_volumes_and_leaders, ends_of_images, starts_of_volumes,
+                 image_files, image_fields, agreements, line_bodies, complex_images, sorts_of_images, complex_agreements,
+                 orders_of_headers, orders_of_shortness, orders_of_bodies, orders_of_images, orders_of_records, boundaries, trailer_cuts, budgets, pieces, pieces_by_budget, asked_again, bodies_again, unjudged,
+                 bad_before_all, every_number, kinds_and_totals, ends_of_volumes_and_leaders, ends_of_images, complex_states, starts_of_volumes,
                  biggest_image, far_lines, biggest_leader, drawn):
         part()
     return store(HOME)

@@ -378,7 +378,7 @@ NEAR_ONE = 0x3F800000  # its power, and a sum of two, stay finite and normal
 
 def random_pattern(rng: random.Random) -> int:
     """Mostly one whose power is finite; now and then any, and any sign."""
-    some = NEAR_ONE + rng.randrange(-(2**28), 2**28)
+    some = NEAR_ONE + rng.randint(-(2**28), 2**28)
     return rng.choice((some, some, some, rng.choice(PATTERNS), rng.randrange(2**31))) ^ rng.choice((0, 2**31))
 
 
@@ -789,7 +789,7 @@ def change_sort(rng: random.Random, made: Made, data: bytes) -> bytes:
     """Some of what the other sort of an image writes: its text, group, d, and the code of a line."""
     if made.kind != IMAGE:
         return data
-    other, begun = _other_sort(made.plan), made.starts[rng.randrange(1, made.records)]
+    other, begun = _other_sort(made.plan), made.starts[rng.randint(1, made.records - 1)]
     d = spell_whole(rng, GROUP[other] * made.plan[W], 8)
     for place, text in ((428, TEXT[other]), (224, spell_whole(rng, GROUP[other], 4)), (280, d), (begun + 5, bytes((LINE_CODE[other],)))):
         if place + len(text) <= len(data) and rng.random() < 0.7:
