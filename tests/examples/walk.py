@@ -1399,7 +1399,8 @@ def main() -> int:
     for part in (begun, worked_examples, refusals_of_volumes, refusals_of_leaders, refusals_of_images, refusals_of_trailers, headers, other_kinds,
                  volumes, class_texts, pointer_numbers, leader_files, slot_order, admitted_slots, empty_slots, facility_pairs, listed_in_slots,
                  image_files, image_fields, agreements, line_bodies, complex_images, sorts_of_images, complex_agreements,
-                 orders_of_headers, orders_of_shortness, orders_of_bodies, orders_of_images, orders_of_records, boundaries, trailer_cuts, budgets, pieces, pieces_by_budget, asked_again, bodies_again, unjudged,
+                 orders_of_headers, orders_of_shortness, orders_of_bodies, orders_of_images, orders_of_records,
+                 boundaries, trailer_cuts, budgets, pieces, pieces_by_budget, asked_again, bodies_again, unjudged,
                  bad_before_all, every_number, kinds_and_totals, ends_of_volumes_and_leaders, ends_of_images, complex_states, starts_of_volumes,
                  biggest_image, far_lines, biggest_leader, drawn):
         part()

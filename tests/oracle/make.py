@@ -637,14 +637,14 @@ def _agreement_breaks(rng: random.Random, made: Made) -> Iterator[Break]:
         ("lines again", 237, 8, plan[N] + 2),
         ("w", 249, 8, plan[W] + 1),
         ("d odd", 281, 8, plan[D] + 1),
-        ("d of the other sort", 281, 8, GROUP[_other_sort(plan)] * plan[W]),
+        ("d of the other sort", 281, 8, GROUP[other_sort(plan)] * plan[W]),
         ("L one too small", 187, 6, least - 1),
         ("s too long", 289, 4, plan[S] + plan[L] - least + 1),
     ):
         yield Break(f"agreement {name}", rank, refusal, byte - 1, spell_whole(rng, value, width))
 
 
-def _other_sort(plan: State) -> int:
+def other_sort(plan: State) -> int:
     return COUNTS if plan[SORT] == COMPLEX else COMPLEX
 
 
@@ -656,7 +656,7 @@ def _sort_breaks(rng: random.Random, made: Made) -> Iterator[Break]:
     """Text and group of an image, and its lines' code, as no sort or the other one has them."""
     if made.kind != IMAGE:
         return
-    other, texts = _other_sort(made.plan), (1, BODY, TEXTS, 428)
+    other, texts = other_sort(made.plan), (1, BODY, TEXTS, 428)
     no_sort, group = ("refused", 8, 1, 428), ("refused", 7, 1, 224)
     for text in rng.sample(OTHER_TEXTS, 4):
         yield Break(f"text {text!r}", texts, no_sort, 428, text)
@@ -789,7 +789,7 @@ def change_sort(rng: random.Random, made: Made, data: bytes) -> bytes:
     """Some of what the other sort of an image writes: its text, group, d, and the code of a line."""
     if made.kind != IMAGE:
         return data
-    other, begun = _other_sort(made.plan), made.starts[rng.randint(1, made.records - 1)]
+    other, begun = other_sort(made.plan), made.starts[rng.randint(1, made.records - 1)]
     d = spell_whole(rng, GROUP[other] * made.plan[W], 8)
     for place, text in ((428, TEXT[other]), (224, spell_whole(rng, GROUP[other], 4)), (280, d), (begun + 5, bytes((LINE_CODE[other],)))):
         if place + len(text) <= len(data) and rng.random() < 0.7:

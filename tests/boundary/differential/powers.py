@@ -5,6 +5,7 @@ Document 02, No. 2: "real times real, imaginary times imaginary, then the sum, e
 pairs are drawn with a fixed seed beside edges (subnormals, squares and sums that pass the greatest, infinities, NaNs,
 signed zeros). The answers due are the oracle's, in exact fractions; enough of the pairs tell a fused multiply-add, with
 the one square unrounded and with the other."""
+import subprocess
 import sys
 import time
 from collections import Counter
@@ -37,8 +38,12 @@ def main() -> int:
     if not enough():
         print(f'powers: there must be {PAIRS} pairs, and {TELLING} that tell a fused multiply-add either way')
         return 1
-    run.build_library()
-    batch = run.Batch(run.build('driver'))
+    try:
+        run.build_library()
+        batch = run.Batch(run.build('driver'))
+    except subprocess.CalledProcessError as failed:
+        print(f'powers: could not be built: {" ".join(failed.cmd)}')
+        return 2
     asked = sum(batch.add((run.SEED, sorts.powers.__name__, block)) for block in range(sorts.power_blocks()))
     if not batch.right():
         return 1

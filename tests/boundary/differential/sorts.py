@@ -175,7 +175,7 @@ def far(rng: random.Random, ask: Asking, block: int) -> None:
     state[PASSED] = line
     ask.set_state(state)
     ask.start()
-    other_code = bytes((make.LINE_CODE[COUNTS + COMPLEX - sort],))
+    other_code = bytes((make.LINE_CODE[make.other_sort(plan)],))
     for place, text in ((0, b''), (0, b'\1'), (5, other_code), (6, b'\0'), (8, b'\1'), (12, b'\7'), (19, b'\2'), (20, b'\xff' * 4), (28, b'\0\1')):
         old = ask.put(place, text)
         for length in {size + 1, size, size - 1, 12, rng.choice((0, 5, 11, 13, 32))}:

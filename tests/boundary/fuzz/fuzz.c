@@ -11,7 +11,7 @@
 #include <time.h>
 
 #define MANY UINT64_MAX
-enum { FRONT = 16, MOST = 40000, ROW = 2000, SAMPLE = 0x5AA5 };
+enum { FRONT = 16, MOST = 40000, ROW = 2000, SAMPLE = 0x5AA5, WORD = 0x5AA5A55A };
 static const uint64_t POISON = 0xA5A5A5A5A5A5A5A5u;
 
 /* Which refusals a function gives, as bits: a first record's, a line's, and each one's own. */
@@ -19,6 +19,8 @@ static const uint64_t POISON = 0xA5A5A5A5A5A5A5A5u;
 #define RECORD_NOS (NO(3) | NO(4) | NO(5) | NO(6) | NO(7) | NO(8))
 #define WALK_NOS (RECORD_NOS | NO(2) | NO(9) | NO(10) | NO(11))
 #define LINE_NOS (RECORD_NOS | NO(10) | NO(13))
+#define ROW_NOS (LINE_NOS | NO(23) | NO(15))
+#define POWER_NOS (LINE_NOS | NO(23) | NO(36) | NO(24))
 #define SET_NOS (RECORD_NOS | NO(2) | NO(9) | NO(12))
 #define CARD_NOS (NO(20) | NO(21) | NO(22))
 #define BUILD_NOS (RECORD_NOS | NO(2) | NO(9) | NO(10) | NO(37))
@@ -65,7 +67,8 @@ static const uint8_t *lend(Arena *arena, const uint8_t *bytes, size_t len) {
 /* Each function with its answer looked at: what every answer must be ---------------------------------------- */
 
 static void refused_of(const uint64_t *a, uint64_t numbers) {
-  static const uint64_t of_no_record = NO(1) | NO(11) | NO(12) | NO(13) | NO(14) | NO(15) | CARD_NOS | NO(37), placed = NO(12) | CARD_NOS;
+  static const uint64_t of_samples = NO(23) | NO(24) | NO(36), placed = NO(12) | CARD_NOS;
+  static const uint64_t of_no_record = NO(1) | NO(11) | NO(12) | NO(13) | NO(14) | NO(15) | NO(37) | CARD_NOS | of_samples;
   hold(a[SBG_A] <= 37 && numbers >> a[SBG_A] & 1, "a refusal that this function does not give");
   if (of_no_record >> a[SBG_A] & 1) hold(a[SBG_B] == 0, "a refusal's record is 0");
   if ((of_no_record & ~placed) >> a[SBG_A] & 1) hold(a[SBG_C] == 0, "a refusal's place is 0");
@@ -73,8 +76,8 @@ static void refused_of(const uint64_t *a, uint64_t numbers) {
 
 /* Numbers that a tag does not use are 0. tags and numbers: bits of what may come. */
 static void shape(const uint64_t *a, uint32_t tags, uint64_t numbers) {
-  static const int used[] = {3, 1, 0, 0, 0, 0, 0, 3, 1, 0, 1, 2};
-  hold(a[SBG_TAG] <= SBG_CARD && tags >> a[SBG_TAG] & 1, "a tag that this function does not give");
+  static const int used[] = {3, 1, 0, 0, 0, 0, 0, 3, 1, 0, 1, 2, 1, 2, 1};
+  hold(a[SBG_TAG] <= SBG_POWER && tags >> a[SBG_TAG] & 1, "a tag that this function does not give");
   for (int i = used[a[SBG_TAG]]; i < 3; i++) hold(a[1 + i] == 0, "an unused number is not 0");
   if (a[SBG_TAG] == SBG_REFUSED) refused_of(a, numbers);
 }
@@ -193,18 +196,30 @@ static void check_wait(const Walked *from, const uint8_t *bytes, size_t len) {
   hold(!again || held < 12, "what was missing is enough");
 }
 
-static void check_row(const uint8_t *bytes, size_t len, uint64_t line, const uint64_t *view, size_t row_len) {
+static uint64_t four(const uint8_t *b) { return (uint64_t)b[0] << 24 | (uint64_t)b[1] << 16 | (uint64_t)b[2] << 8 | b[3]; }
+
+/* A line as it is viewed, and what its image says of it. */
+typedef struct {
+  uint64_t line, view[SBG_ANSWER], sort, group;
+} Seen;
+
+static int is_no(const uint64_t *a, uint64_t number) { return a[SBG_TAG] == SBG_REFUSED && a[SBG_A] == number; }
+
+static void check_row(const uint8_t *bytes, size_t len, const Seen *s, size_t row_len) {
+  const uint64_t *view = s->view;
   static uint16_t row[ROW];
   uint64_t a[SBG_ANSWER];
   property = "row";
   for (size_t i = 0; i < ROW; i++) row[i] = SAMPLE;
-  hold(sbg_row(bytes, len, line, row, row_len, a, SBG_ANSWER) == 1, "no answer");
-  shape(a, 1 << SBG_REFUSED | 1 << SBG_WAIT | 1 << SBG_COPIED, LINE_NOS | NO(15));
+  hold(sbg_row(bytes, len, s->line, row, row_len, a, SBG_ANSWER) == 1, "no answer");
+  shape(a, 1 << SBG_REFUSED | 1 << SBG_WAIT | 1 << SBG_COPIED, ROW_NOS);
   size_t many = 0;
   if (view[SBG_TAG] != SBG_SHOWN) {
     hold(same(a, view, SBG_ANSWER), "a row says what the view says");
+  } else if (s->sort != 0) {
+    hold(is_no(a, 23), "the row copy is for counts");
   } else if (row_len < view[SBG_B]) {
-    hold(a[SBG_TAG] == SBG_REFUSED && a[SBG_A] == 15, "too short a row is 15");
+    hold(is_no(a, 15), "too short a row is 15");
   } else {
     hold(a[SBG_TAG] == SBG_COPIED && a[SBG_A] == view[SBG_B], "the view's data pixels are copied");
     many = view[SBG_B];
@@ -214,11 +229,101 @@ static void check_row(const uint8_t *bytes, size_t len, uint64_t line, const uin
   for (size_t j = many; j < ROW; j++) hold(row[j] == SAMPLE, "later samples stay");
 }
 
+static void check_complex_row(const uint8_t *bytes, size_t len, const Seen *s, size_t row_len) {
+  static uint32_t row[ROW];
+  const uint64_t *view = s->view;
+  uint64_t a[SBG_ANSWER];
+  property = "complex row";
+  for (size_t i = 0; i < ROW; i++) row[i] = WORD;
+  hold(sbg_complex_row(bytes, len, s->line, row, row_len, a, SBG_ANSWER) == 1, "no answer");
+  shape(a, 1 << SBG_REFUSED | 1 << SBG_WAIT | 1 << SBG_COPIED, ROW_NOS);
+  size_t many = 0;
+  if (view[SBG_TAG] != SBG_SHOWN) {
+    hold(same(a, view, SBG_ANSWER), "a row says what the view says");
+  } else if (s->sort != 1) {
+    hold(is_no(a, 23), "the complex row is for complex samples");
+  } else if (row_len < 2 * view[SBG_B]) {
+    hold(is_no(a, 15), "too short a row is 15");
+  } else {
+    hold(a[SBG_TAG] == SBG_COPIED && a[SBG_A] == view[SBG_B], "the view's data pixels are copied");
+    many = 2 * view[SBG_B];
+  }
+  for (size_t j = 0; j < many; j++) hold(row[j] == four(bytes + view[SBG_A] + 4 * j), "a part, high byte first, every bit");
+  for (size_t j = many; j < ROW; j++) hold(row[j] == WORD, "later numbers stay");
+}
+
+static int is_finite(uint64_t bits) { return (bits & 0x7FFFFFFF) < 0x7F800000; }
+
+/* The machine's own products and sum, each kept in memory, so that none is fused. */
+static uint64_t power_of(uint64_t real, uint64_t imaginary) {
+  uint32_t parts[] = {(uint32_t)real, (uint32_t)imaginary}, bits;
+  float numbers[2];
+  memcpy(numbers, parts, sizeof numbers);
+  volatile float one = numbers[0] * numbers[0], other = numbers[1] * numbers[1], sum = one + other;
+  float power = sum;
+  memcpy(&bits, &power, sizeof bits);
+  return bits;
+}
+
+static void check_power(const uint8_t *bytes, size_t len, const Seen *s, uint64_t index, const uint64_t *sample) {
+  uint64_t a[SBG_ANSWER];
+  property = "power";
+  hold(sbg_power(bytes, len, s->line, index, a, SBG_ANSWER) == 1, "no answer");
+  shape(a, 1 << SBG_REFUSED | 1 << SBG_WAIT | 1 << SBG_POWER, POWER_NOS);
+  hold(a[SBG_COUNT] == 0, "a power has no count");
+  if (s->view[SBG_TAG] != SBG_SHOWN) {
+    hold(same(a, s->view, SBG_ANSWER), "a power says what the view says");
+  } else if (s->sort != 1) {
+    hold(is_no(a, 23), "23 for counts, before 36");
+  } else if (sample[SBG_TAG] != SBG_SAMPLE_COMPLEX) {
+    hold(same(a, sample, SBG_ANSWER), "36 as the sample has it");
+  } else {
+    uint64_t due = power_of(sample[SBG_A], sample[SBG_B]);
+    int fine = is_finite(sample[SBG_A]) && is_finite(sample[SBG_B]) && is_finite(due);
+    hold(fine ? a[SBG_TAG] == SBG_POWER && a[SBG_A] == due : is_no(a, 24), "two products and a sum, or 24");
+  }
+}
+
+static void check_sample(const uint8_t *bytes, size_t len, const Seen *s, uint64_t index) {
+  const uint64_t *view = s->view;
+  uint64_t a[SBG_ANSWER];
+  property = "sample";
+  hold(sbg_sample(bytes, len, s->line, index, a, SBG_ANSWER) == 1, "no answer");
+  shape(a, 1 << SBG_REFUSED | 1 << SBG_WAIT | 1 << SBG_SAMPLE_COUNT | 1 << SBG_SAMPLE_COMPLEX, LINE_NOS | NO(36));
+  hold(a[SBG_COUNT] == 0, "a sample has no count");
+  if (view[SBG_TAG] != SBG_SHOWN) {
+    hold(same(a, view, SBG_ANSWER), "a sample says what the view says");
+  } else if (index >= view[SBG_B]) {
+    hold(is_no(a, 36), "36 exactly outside the data pixels");
+  } else {
+    const uint8_t *at = bytes + view[SBG_A] + s->group * index;
+    uint64_t of_counts[] = {SBG_SAMPLE_COUNT, at[0] * 256u + at[1], 0}, of_complex[] = {SBG_SAMPLE_COMPLEX, 0, 0};
+    if (s->sort == 1) of_complex[SBG_A] = four(at), of_complex[SBG_B] = four(at + 4);
+    hold(same(a, s->sort == 1 ? of_complex : of_counts, 3), "the sample's bytes, high byte first");
+  }
+  seen(10, a, index < 64 ? index : 64);
+  check_power(bytes, len, s, index, a);
+}
+
 static void view_of(const uint8_t *bytes, size_t len, uint64_t line, uint64_t *view) {
   property = "line";
   hold(sbg_line(bytes, len, line, view, SBG_ANSWER) == 1, "no answer");
   shape(view, 1 << SBG_REFUSED | 1 << SBG_WAIT | 1 << SBG_SHOWN, LINE_NOS);
   hold(view[SBG_COUNT] == 0, "a view has no count");
+}
+
+/* Rows, samples and powers of a line as it is viewed. */
+static void check_shown(const uint8_t *bytes, size_t len, const Choices *c, const uint64_t *view, uint64_t sort) {
+  Seen s = {.line = c->line, .sort = sort, .group = sort == 1 ? 8 : 2};
+  memcpy(s.view, view, sizeof s.view);
+  uint64_t shown = view[SBG_TAG] == SBG_SHOWN ? view[SBG_B] : 0, enough = 2 * shown < ROW ? shown : 0;
+  check_row(bytes, len, &s, c->number % ROW);
+  check_row(bytes, len, &s, enough);
+  check_complex_row(bytes, len, &s, c->number % ROW);
+  check_complex_row(bytes, len, &s, 2 * enough);
+  if (enough) check_complex_row(bytes, len, &s, 2 * enough - 1);
+  uint64_t indices[] = {0, c->number, c->index, shown, shown - 1, MANY, c->number % (shown + 1)};
+  for (size_t i = 0; i < sizeof indices / sizeof *indices; i++) check_sample(bytes, len, &s, indices[i]);
 }
 
 static void check_line(const uint8_t *bytes, size_t len, const Choices *c) {
@@ -235,11 +340,12 @@ static void check_line(const uint8_t *bytes, size_t len, const Choices *c) {
   if (view[SBG_TAG] == SBG_SHOWN) {
     uint64_t begin = 720 + (c->line - 1) * first.state[SBG_L], end = begin + first.state[SBG_L] - first.state[SBG_S];
     hold(c->line >= 1 && c->line <= first.state[SBG_N], "a shown line is 1 to n");
-    hold(view[SBG_A] == end - first.state[SBG_D] + 2 * view[SBG_C], "the data pixels skip the left fill");
-    hold(view[SBG_C] + view[SBG_B] <= first.state[SBG_W] && end <= len && view[SBG_A] + 2 * view[SBG_B] <= end, "inside the record");
+    uint64_t group = first.state[SBG_D] / first.state[SBG_W];
+    hold(first.state[SBG_SORT] <= 1 && group == (first.state[SBG_SORT] ? 8 : 2), "a sort, and its bytes a group");
+    hold(view[SBG_A] == end - first.state[SBG_D] + group * view[SBG_C], "the data pixels skip the left fill");
+    hold(view[SBG_C] + view[SBG_B] <= first.state[SBG_W] && end <= len && view[SBG_A] + group * view[SBG_B] <= end, "inside the record");
   }
-  check_row(bytes, len, c->line, view, c->number % ROW);
-  check_row(bytes, len, c->line, view, view[SBG_TAG] == SBG_SHOWN && view[SBG_B] < ROW ? view[SBG_B] : 0);
+  check_shown(bytes, len, c, view, first.state[SBG_SORT]);
 }
 
 static void field_of(const uint8_t *bytes, size_t len, uint64_t number, uint64_t *told, int64_t *value) {
@@ -316,8 +422,6 @@ static void check_set(const uint8_t *bytes, size_t len, const Choices *c) {
 
 enum { SCENE = 17, LINE = 13, LEADER = 10, SCENE_NUMBERS = 4, BUILT = 1 << 13, NUMBERS = 2 * MOST };
 
-static uint64_t four(const uint8_t *b) { return (uint64_t)b[0] << 24 | (uint64_t)b[1] << 16 | (uint64_t)b[2] << 8 | b[3]; }
-
 static void card_of(const uint8_t *card, size_t len, uint64_t *told) {
   property = "card";
   hold(sbg_card(card, len, told, SBG_ANSWER) == 1, "no answer");
@@ -337,7 +441,9 @@ static void check_numbers(const uint8_t *card, const uint64_t *numbers, const ui
   const uint8_t *leaders = card + SCENE + LINE * told[SBG_A];
   uint64_t start = 0;
   for (int i = 0; i < SCENE_NUMBERS; i++) hold(numbers[i] == four(card + 1 + 4 * i), "n, L, w, d");
-  hold(numbers[0] == told[SBG_A] && numbers[3] == 2 * numbers[2] && 192 + numbers[3] <= numbers[1], "they agree");
+  int counts = numbers[3] == 2 * numbers[2] && 192 + numbers[3] <= numbers[1];
+  int of_complex = numbers[3] == 8 * numbers[2] && 412 + numbers[3] <= numbers[1];
+  hold(numbers[0] == told[SBG_A] && (counts || of_complex), "they agree");
   for (uint64_t i = 0; i < told[SBG_A]; i++) {
     const uint8_t *entry = card + SCENE + LINE * i;
     hold(entry[0] == 2 && four(entry + 1) == i + 1, "the lines in order");
@@ -477,6 +583,23 @@ static void check_card_arrays(const uint8_t *bytes, size_t len, size_t answer_le
   hold(!memcmp(card, before, sizeof card) && same(numbers, poison, SCENE_NUMBERS), "what is too short stays");
 }
 
+/* The calls of samples with an answer of that length, in an array that is longer. */
+static void check_sample_arrays(const uint8_t *bytes, size_t len, const Choices *c, size_t answer_len) {
+  uint64_t answer[SBG_ANSWER + 8], poison[SBG_ANSWER + 8], told[3];
+  uint32_t row[4] = {WORD, WORD, WORD, WORD};
+  memset(poison, 0xA5, sizeof poison);
+  for (int call = 0; call < 3; call++) {
+    memset(answer, 0xA5, sizeof answer);
+    if (call == 0) told[0] = sbg_sample(bytes, len, c->line, c->index, answer, answer_len);
+    if (call == 1) told[1] = sbg_power(bytes, len, c->line, c->index, answer, answer_len);
+    if (call == 2) told[2] = sbg_complex_row(bytes, len, c->line, row, answer_len < SBG_ANSWER ? 4 : 0, answer, answer_len);
+    hold(told[call] == (answer_len >= SBG_ANSWER), "0 exactly where the answer is too short");
+    size_t said = told[call] ? SBG_ANSWER : 0;
+    hold(same(answer + said, poison + said, SBG_ANSWER + 8 - said), "the rest stays");
+  }
+  for (int i = 0; i < 4; i++) hold(row[i] == WORD, "a row stays where the answer is too short");
+}
+
 /* Arrays that are too short: 0, and nothing is written; past the used numbers nothing is written. */
 static void check_arrays(const Walked *from, const uint8_t *bytes, size_t len, const Choices *c) {
   uint64_t state[SBG_STATE + 8], answer[SBG_ANSWER + 8], before[SBG_STATE + 8], poison[SBG_ANSWER + 8];
@@ -498,6 +621,7 @@ static void check_arrays(const Walked *from, const uint8_t *bytes, size_t len, c
   for (size_t i = used; i < SBG_VALUE + 2; i++) hold(value[i] == (int64_t)POISON, "the rest stays");
   hold(same(answer + said, poison + said, SBG_ANSWER + 8 - said), "the rest stays");
   check_card_arrays(bytes, len, answer_len);
+  check_sample_arrays(bytes, len, c, answer_len);
 }
 
 /* A state deep in a huge image: its start is past 32 bits. */

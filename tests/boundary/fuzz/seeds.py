@@ -13,7 +13,7 @@ import make_cards  # noqa: E402
 
 def behind_choices(rng: random.Random, kind: int, cut: int, data: bytes) -> bytes:
     budget, line, listed = rng.choice((0, 1, 1, 2, 16, 255)), rng.randint(0, 4), rng.randint(0, 15)
-    front = bytes((kind, rng.randrange(4), budget, line, listed)) + cut.to_bytes(2, 'big') + bytes((rng.randrange(42),))
+    front = bytes((kind, rng.randrange(4), budget, line, listed)) + cut.to_bytes(2, 'big') + bytes((rng.randrange(43),))
     return front + rng.choice((rng.randrange(10), rng.randrange(2 ** 64))).to_bytes(8, 'little') + data
 
 
