@@ -370,16 +370,16 @@ def random_fills(rng: random.Random, w: int) -> tuple[int, int, int]:
     return first, second - first, w - second
 
 
-# Patterns of 32 bits: zeros, the least and the greatest, ones, infinities, NaNs with and without the quiet bit.
-PATTERNS = (0, 1, 0x007FFFFF, 0x00800000, 0x1A000000, 0x3F800000, 0x3F800001, 0x40490FDB, 0x5F7FFFFF, 0x5F800000, 0x7F7FFFFF)
-PATTERNS += (0x7F800000, 0x7F800001, 0x7FBFFFFF, 0x7FC00000, 0x7FC12345, 0x7FFFFFFF)
+NANS = (0x7F800001, 0x7FA5A5A5, 0x7FBFFFFF, 0x7FC00000, 0x7FC12345, 0x7FFFFFFF)  # the first three without the quiet bit
+# Patterns of 32 bits: zero, the least and the greatest, ones, infinity, NaNs.
+PATTERNS = (0, 1, 0x007FFFFF, 0x00800000, 0x1A000000, 0x3F800000, 0x3F800001, 0x40490FDB, 0x5F7FFFFF, 0x5F800000, 0x7F7FFFFF, 0x7F800000, *NANS)
 NEAR_ONE = 0x3F800000  # its power, and a sum of two, stay finite and normal
 
 
 def random_pattern(rng: random.Random) -> int:
-    """Mostly one whose power is finite; now and then any, and any sign."""
+    """Mostly one whose power is finite; now and then a NaN, or any; with any sign."""
     some = NEAR_ONE + rng.randint(-(2**28), 2**28)
-    return rng.choice((some, some, some, rng.choice(PATTERNS), rng.randrange(2**31))) ^ rng.choice((0, 2**31))
+    return rng.choice((some, some, some, rng.choice(PATTERNS), rng.choice(NANS), rng.randrange(2**31))) ^ rng.choice((0, 2**31))
 
 
 def random_sample(rng: random.Random, sort: int) -> Sample:

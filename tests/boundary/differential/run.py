@@ -32,7 +32,7 @@ MADE = HOME / 'target' / 'differential'
 LIBRARY = HOME / 'target' / 'lib' / 'libseobangyu.a'
 RUN, CC = str(HOME / 'scripts' / 'run'), str(HOME / 'scripts' / 'cc')
 CASES, SEED = 200_000, 20260
-SELFTEST = 9_500  # cases that the wrong libraries are asked
+SELFTEST = 14_000  # cases that the wrong libraries are asked
 BATCH = 6_000_000  # bytes of questions and replies, about
 LONG = 120 if platform.machine() == 'x86_64' else 1200  # seconds that a batch may take
 LISTINGS = 200  # inputs of the listing program

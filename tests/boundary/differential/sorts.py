@@ -284,15 +284,25 @@ def numbers(rng: random.Random, ask: Asking, block: int) -> None:
 # Lines, rows, sets, listing -------------------------------------------------------------------------------
 
 
-def an_image(rng: random.Random) -> tuple[Made, bytes]:
-    """An image, or damage of one."""
-    made = make.random_file(rng, IMAGE)
-    return made, make.damage(rng, made) if rng.random() < 0.4 else made.data
+def with_data(rng: random.Random, w: int) -> make.Fills:
+    """Fills of a line with data pixels, but for one in five."""
+    if rng.random() < 0.2:
+        return make.random_fills(rng, w)
+    left = rng.randint(0, w - 1)
+    shown = rng.randint(1, w - left)
+    return left, shown, w - left - shown
+
+
+def an_image(rng: random.Random, sort: int, damaged: float = 0.4) -> tuple[Made, bytes]:
+    """An image of that sort, most lines with data pixels; or damage of one, as often as is said."""
+    plan = make.random_image_plan(rng, sort)
+    made = make.make_image(rng, plan, [with_data(rng, plan[W]) for _ in range(plan[N])])
+    return made, make.damage(rng, made) if rng.random() < damaged else made.data
 
 
 def lines(rng: random.Random, ask: Asking, block: int) -> None:
     """Every line, lines that there are not, of prefixes of any length; one line at every byte of a small image."""
-    made, data = an_image(rng)
+    made, data = an_image(rng, either_sort(rng))
     ask.hold(data)
     size = len(data)
     for line in (*range(made.plan[N] + 3), 2 ** 32 + 1, rng.choice(HUGE)):
@@ -306,7 +316,7 @@ def lines(rng: random.Random, ask: Asking, block: int) -> None:
             old = ask.put(one.place, one.patch)
             ask.line(0, size, max(1, one.rank[0] - 1) + rng.choice((0, 0, 0, 1)))
             ask.put(one.place, old)
-    if block % 8 == 0:
+    if block % 8 == 7:
         small = smallest(rng, IMAGE)
         ask.hold(small.data)
         for length in range(len(small.data) + 1):
@@ -329,7 +339,7 @@ def wide_line(rng: random.Random, ask: Asking) -> None:
 
 def rows(rng: random.Random, ask: Asking, block: int) -> None:
     """Row copies into rows too short, just long enough, and longer; on waits and refusals too; of counts and of complex samples."""
-    made, data = an_image(rng)
+    made, data = an_image(rng, either_sort(rng))
     ask.hold(data)
     size, w = len(data), made.plan[W]
     for copy, each in ((ask.row, 1), (ask.complex_row, 2)):
@@ -350,24 +360,13 @@ def rows(rng: random.Random, ask: Asking, block: int) -> None:
 
 def indices(rng: random.Random, count: int) -> set[int]:
     """Of samples that there are, and that there are not; some that are one only in 32 bits, or whose eightfold wraps."""
-    few = (*range(min(count, 3)), count - 1, count, count + 1, rng.randint(0, count), 2 ** 32 + rng.randint(0, count), 2 ** 61 + count // 2)
-    return {*few, rng.choice(HUGE), MANY} - {-1}
-
-
-def with_data(rng: random.Random, w: int) -> make.Fills:
-    """Fills of a line with data pixels, but for one in five."""
-    if rng.random() < 0.2:
-        return make.random_fills(rng, w)
-    left = rng.randint(0, w - 1)
-    shown = rng.randint(1, w - left)
-    return left, shown, w - left - shown
+    outside = rng.sample((count, count + 1, 2 ** 32 + rng.randint(0, count), 2 ** 61 + count // 2, rng.choice(HUGE), MANY), 3)
+    return {*range(min(count, 6)), max(count - 1, 0), rng.randint(0, count), *outside}
 
 
 def samples_and_powers(rng: random.Random, ask: Asking, block: int) -> None:
-    """Samples and powers of both sorts: every line, lines that there are not, damaged images, cut ones, rules broken."""
-    plan = make.random_image_plan(rng, block % 2)
-    made = make.make_image(rng, plan, [with_data(rng, plan[W]) for _ in range(plan[N])])
-    data = make.damage(rng, made) if rng.random() < 0.3 else made.data
+    """Samples and powers of both sorts, and their lines and rows: every line, lines that there are not, damaged images, cut ones, rules broken."""
+    made, data = an_image(rng, block % 2, damaged=0.15)
     ask.hold(data)
     size = len(data)
     for line, shown in enumerate(made.lines, start=1):
@@ -375,11 +374,14 @@ def samples_and_powers(rng: random.Random, ask: Asking, block: int) -> None:
         for index in indices(rng, count):
             ask.sample(0, size, line, index)
             ask.power(0, size, line, index)
+        ask.line(0, size, line)
+        ask.row(0, size, line, rng.choice((0, count, count)))
+        ask.complex_row(0, size, line, rng.choice((0, 2 * count, 2 * count, 2 * count + 3, max(2 * count - 1, 0))))
         cut = rng.choice((made.starts[line + 1] - 1, made.starts[line], rng.randint(0, size)))
         for one in (ask.sample, ask.power):
             one(0, min(size, cut), line, rng.choice((0, count, MANY)))
             one(0, size, rng.choice((0, made.plan[N] + 1, *HUGE)), rng.choice((0, MANY)))
-    for one in rng.sample(make.breaks(rng, made), 10):
+    for one in rng.sample(make.breaks(rng, made), 6):
         if one.place + len(one.patch) <= size:
             line = max(1, one.rank[0] - 1) + rng.choice((0, 0, 0, 1))
             old = ask.put(one.place, one.patch)
@@ -444,7 +446,7 @@ def listed_file(rng: random.Random, block: int) -> bytes:
         plan = make.image_plan(1, rng.choice((1, widest)), 0, rng.choice((32_768, 32_769, 32_770, 40_000)), sort)
         data = make.make(rng, plan).data
         return data[:rng.choice((len(data), 720, 800))]
-    made, data = an_image(rng)
+    made, data = an_image(rng, either_sort(rng))
     return data if rng.random() < 0.8 else data[:rng.randint(0, len(data))]
 
 
@@ -583,6 +585,6 @@ def sample_arrays(rng: random.Random, ask: Asking) -> None:
 SORTS: dict[Sort, int] = {
     whole: 60, broken: 150, damaged: 110, cuts: 150, pieces: 80, states: 110, begins: 5, far: 40, fields: 100, numbers: 60,
     lines: 60, rows: 40, sets: 25, listing: 10, arrays: 25, cards_read: 60, card_cuts: 30, card_numbers: 30, cards_built: 40,
-    samples_and_powers: 60, powers: 30,
+    samples_and_powers: 100, powers: 30,
 }
 BY_NAME: dict[str, Sort] = {sort.__name__: sort for sort in SORTS}
