@@ -281,7 +281,7 @@ def selftest(seed: int) -> int:
             missed.append(way)
     noticed, cases = len(ways) - len(missed), sum(tally.sorts.values())
     print(f'differential: {noticed} of {len(ways)} wrong libraries noticed in {cases} cases, {time.monotonic() - began:.0f} s')
-    if missed or len(ways) < 50:
+    if missed or len(ways) < 80:
         print(f'NOT NOTICED: {", ".join(missed)}')
         return 1
     return 0
