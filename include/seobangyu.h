@@ -1,5 +1,6 @@
-/* Seobangyu: a reader of CEOS SAR products, from C: PALSAR. Of JERS-1, by its own tables, no leader,
- * image or trailer is accepted; only a volume directory can be (docs/SOURCES.md).
+/* Seobangyu: a reader of CEOS SAR products, from C: PALSAR, images of level 1.5 and complex ones of level
+ * 1.1. Of JERS-1, by its own tables, no leader, image or trailer is accepted; only a volume directory can be
+ * (docs/SOURCES.md).
  *
  * Every function takes any bytes and any numbers and ends with an answer; nothing is allocated, kept
  * or printed, so any number of threads may call. What each answers is proved (docs/PROMISES.md).
