@@ -6,6 +6,8 @@ sort in the fewest digits; powers that each rounding decides; a line of the most
 that were, and exits with 1 at the first difference."""
 import os
 import random
+import re
+import subprocess
 import sys
 import tempfile
 import time
@@ -172,8 +174,21 @@ def longest() -> str:
     return try_all(f'samples of a line of {w}', [*both(data, 1, w - 1), *both(data, 1, w), line_case(data[:-1], 1)])
 
 
+def session() -> str:
+    """The one of README.md: its commands and what they print."""
+    path = ceos.folder / 'IMG'
+    subprocess.run([str(ceos.HOME / 'scripts' / 'scene'), 'complex', str(path)], check=True)
+    text = (ceos.HOME / 'README.md').read_text()
+    shown = re.search(r'```\n\$ (ceos sample .*)\n((?:SAMPLE .*\n)+)```', text)
+    assert shown is not None
+    rows = ''.join(ran(*command.replace('IMG', str(path)).split()[1:]).rows for command in shown[1].split(' && '))
+    hold("README.md's session", rows, shown[2])
+    hold('its scene is accepted', ran('walk', 'image', path).status, ACCEPTED)
+    return "README.md's session"
+
+
 def uses() -> str:
-    """A name with no file, and the help."""
+    """The help, a name behind `--`, and a sample that is waited for."""
     help_rows = ran('--help').rows
     for part in ('ceos sample IMG K J', 'ceos power IMG K J', 'J counts from 0'):
         hold(f'the help: {part}', part in help_rows, True)
@@ -190,7 +205,7 @@ def main() -> int:
     began = time.monotonic()
     with tempfile.TemporaryDirectory() as name:
         ceos.folder = Path(name)
-        parts: tuple[Callable[[], str], ...] = (ceos.build, drawn_samples, refusals, sorts, digits, powers, longest, uses)
+        parts: tuple[Callable[[], str], ...] = (ceos.build, drawn_samples, refusals, sorts, digits, powers, longest, session, uses)
         status = all_parts('tests/programs/ceos_samples.py', parts)
     if status == 0:
         print(f'tests/programs/ceos_samples.py: {checks[0]} checks in {time.monotonic() - began:.0f} s')
