@@ -159,7 +159,7 @@ static struct fault descriptor(const uint8_t *r, struct plan *plan) {
   uint64_t group, channels, lines;
   struct fault f;
   if (memcmp(r + 12, "A ", 2) != 0) return fault(8, 12);
-  p.sort = memcmp(r + 428, SORT[SBG_COMPLEX].text, 4) == 0 ? SBG_COMPLEX : SBG_COUNTS;
+  p.sort = memcmp(r + 428, SORT[SBG_SORT_COMPLEX].text, 4) == 0 ? SBG_SORT_COMPLEX : SBG_SORT_COUNTS;
   if (memcmp(r + 428, SORT[p.sort].text, 4) != 0) return fault(8, 428);
   uint64_t due = SORT[p.sort].group;
   if ((f = needed(r, 181, I6, 1, 999999, &p.n)).number) return f;
@@ -327,7 +327,7 @@ static uint64_t plain_row(const uint8_t *bytes, size_t len, uint64_t line, uint1
   uint64_t sort = find(bytes, len, line, answer);
   if (answer[SBG_TAG] != SBG_SHOWN) return 1;
   uint64_t start = answer[SBG_A], count = answer[SBG_B];
-  if (sort != SBG_COUNTS) return refuse(answer, 23);
+  if (sort != SBG_SORT_COUNTS) return refuse(answer, 23);
   if (row_len < count) return refuse(answer, 15);
   copy(bytes + start, count, row);
   return tell(answer, SBG_COPIED, count, 0, 0, 0);
@@ -344,7 +344,7 @@ static uint64_t plain_complex_row(const uint8_t *bytes, size_t len, uint64_t lin
   uint64_t sort = find(bytes, len, line, answer);
   if (answer[SBG_TAG] != SBG_SHOWN) return 1;
   uint64_t start = answer[SBG_A], count = answer[SBG_B];
-  if (sort != SBG_COMPLEX) return refuse(answer, 23);
+  if (sort != SBG_SORT_COMPLEX) return refuse(answer, 23);
   if (row_len < 2 * count) return refuse(answer, 15);
   copy_parts(bytes + start, 2 * count, row);
   return tell(answer, SBG_COPIED, count, 0, 0, 0);

@@ -61,7 +61,7 @@ int run_line(const struct asked *asked) {
   if (answer[SBG_TAG] != SBG_SHOWN) return say_other(&file, answer);
   see_read(&file);
   read_plan(&file, state);
-  if (state[SBG_SORT] == SBG_COMPLEX)
+  if (state[SBG_SORT] == SBG_SORT_COMPLEX)
     say_complex_line(&file, line, answer, state[SBG_W]);
   else
     say_line_of_counts(&file, line, answer, state[SBG_W]);

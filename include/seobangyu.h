@@ -56,7 +56,7 @@ enum {
 
 /* The sorts of an image's samples, as a state has them: whole counts of 16 bits, or two 32-bit floats, real
  * then imaginary. */
-enum { SBG_COUNTS = 0, SBG_COMPLEX = 1 };
+enum { SBG_SORT_COUNTS = 0, SBG_SORT_COMPLEX = 1 };
 
 /* An answer: tag, a, b, c, count. Numbers that an answer does not use are 0. */
 enum { SBG_TAG = 0, SBG_A = 1, SBG_B = 2, SBG_C = 3, SBG_COUNT = 4 };
