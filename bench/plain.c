@@ -2,6 +2,7 @@
  * every refusal, no tricks. It is in a file of its own, so that nothing is inlined into the timing. */
 #include "plain.h"
 
+#include <endian.h>
 #include <string.h>
 
 #define FIRST 720 /* bytes of an image's first record */
@@ -333,9 +334,14 @@ static uint64_t plain_row(const uint8_t *bytes, size_t len, uint64_t line, uint1
   return tell(answer, SBG_COPIED, count, 0, 0, 0);
 }
 
-/* Four bytes a part, high byte first. */
+/* Four bytes a part, high byte first. Of the usual ways to write it the one that becomes the fastest code: by
+ * shifts, as in four, no compiler here makes vectors of it. */
 static void copy_parts(const uint8_t *restrict px, size_t count, uint32_t *restrict row) {
-  for (size_t j = 0; j < count; j++) row[j] = four(px + 4 * j);
+  for (size_t j = 0; j < count; j++) {
+    uint32_t part;
+    memcpy(&part, px + 4 * j, sizeof part);
+    row[j] = be32toh(part);
+  }
 }
 
 static uint64_t plain_complex_row(const uint8_t *bytes, size_t len, uint64_t line, uint32_t *row,
