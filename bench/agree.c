@@ -18,6 +18,7 @@ struct written {
   uint64_t returned, state[SBG_STATE + 1], answer[SBG_ANSWER + 1];
   int64_t value[SBG_VALUE + 1];
   uint16_t row[ROW];
+  uint32_t parts[2 * ROW];
 };
 
 static struct written poisoned(void) {
@@ -51,7 +52,7 @@ static void walk_same(const uint64_t *from, const uint8_t *b, size_t len, uint64
   same("the walk", &x[0], &x[1]);
 }
 
-/* The line view and the row copy. */
+/* The line view and both row copies; the complex one is lent two numbers a sample. */
 static void line_same(const uint8_t *b, size_t len, uint64_t line, size_t row_len) {
   struct written ours = poisoned(), plain = poisoned();
   ours.returned = OURS.line(b, len, line, ours.answer, SBG_ANSWER);
@@ -61,6 +62,10 @@ static void line_same(const uint8_t *b, size_t len, uint64_t line, size_t row_le
   ours.returned = OURS.row(b, len, line, ours.row, row_len, ours.answer, SBG_ANSWER);
   plain.returned = plain_c->row(b, len, line, plain.row, row_len, plain.answer, SBG_ANSWER);
   same("the row copy", &ours, &plain);
+  ours = plain = poisoned();
+  ours.returned = OURS.complex_row(b, len, line, ours.parts, 2 * row_len, ours.answer, SBG_ANSWER);
+  plain.returned = plain_c->complex_row(b, len, line, plain.parts, 2 * row_len, plain.answer, SBG_ANSWER);
+  same("the complex row copy", &ours, &plain);
 }
 
 /* Everything that is asked of an image, open and closed. */
@@ -84,7 +89,7 @@ static void field_same(const uint8_t *b, size_t len, uint64_t number) {
 static const uint8_t CHANGED[] = {0, ' ', '+', '-', '.', '0', '1', '9', 'E', ':', '/', 255};
 
 /* Damage of more than one byte: the file's byte, counted from 0, and what is written there. The image
- * is that of damaged_images: n = 3, L = 210, w = 5, s = 3, lines at 720, 930, 1140. */
+ * is that of damaged_images: n = 3, w = 5, s = 3, and of counts L = 210, lines at 720, 930, 1140. */
 static const struct {
   size_t at;
   const char *text;
@@ -93,6 +98,8 @@ static const struct {
     {186, "   205"},          {186, "    -1"},      {224, "   4"},     {232, "   2"},
     {236, "       4"},        {248, "       6"},    {280, "      12"}, {288, "    "},
     {288, "9999"},            {428, "C*8 "},        {12, "B"},         {740, "\377\377\377\377"},
+    {428, "IU2 "},            {428, "C*8b"},        {224, "   2"},     {224, "   8"},
+    {280, "      10"},        {280, "      40"},    {186, "   454"},   {186, "   455"},
     {744, "\377\377\377\377"}, {944, "\377\377"},    {1152, "\377"},    {1160, "\001"},
 };
 
@@ -114,8 +121,13 @@ static void written_over(uint8_t *b, const struct image *x, size_t at, const cha
   memcpy(b + at, x->bytes + at, size);
 }
 
-static void damaged_images(void) {
-  struct image x = make_image(3, 210, 5, 3, 1);
+/* n = 3, w = 5, s = 3, and five bytes more ahead of the pixels than there must be. */
+static struct image small(const struct sort *sort) {
+  return make_image(sort, 3, sort->ahead + 5 * sort->group + 8, 5, 3, 1);
+}
+
+static void damaged_images(const struct sort *sort) {
+  struct image x = small(sort);
   uint8_t *b = malloc(x.len + 1);
   if (b == NULL) exit(2);
   memcpy(b, x.bytes, x.len);
@@ -131,9 +143,9 @@ static void damaged_images(void) {
 }
 
 /* States of every place in a walk, and each with every number changed. */
-static void bad_states(void) {
-  static const uint64_t CHANGES[] = {0, 1, 2, 3, 4, 5, 204, 205, 211, 1000000, 100000000, UINT64_MAX};
-  struct image x = make_image(3, 210, 5, 3, 1);
+static void bad_states(const struct sort *sort) {
+  static const uint64_t CHANGES[] = {0, 1, 2, 3, 4, 5, 204, 205, 211, 454, 455, 1000000, 100000000, UINT64_MAX};
+  struct image x = small(sort);
   for (uint64_t passed = 0; passed <= 4; passed++) {
     uint64_t state[SBG_STATE], answer[SBG_ANSWER];
     plain_c->begin(SBG_IMAGE, state, SBG_STATE, answer, SBG_ANSWER);
@@ -194,8 +206,10 @@ static void made_up_fields(void) {
 uint64_t agree(const struct reader *other) {
   plain_c = other;
   asked = 0;
-  damaged_images();
-  bad_states();
+  damaged_images(&COUNTS);
+  damaged_images(&COMPLEX);
+  bad_states(&COUNTS);
+  bad_states(&COMPLEX);
   damaged_fields();
   made_up_fields();
   return asked;

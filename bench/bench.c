@@ -10,7 +10,7 @@
 #include "cards.h"
 #include "jobs.h"
 
-const struct reader OURS = {sbg_begin, sbg_walk, sbg_field, sbg_line, sbg_row};
+const struct reader OURS = {sbg_begin, sbg_walk, sbg_field, sbg_line, sbg_row, sbg_complex_row};
 
 #define READERS 5 /* ours, then the opponents */
 #define CONTENDERS (READERS + 1)
@@ -21,18 +21,21 @@ static const struct reader *const READER[READERS] = {&OURS, &gcc_O2_reader, &gcc
                                                      &clang_O3_reader};
 static const char *const NAME[READERS] = {"ours", "gcc -O2", "gcc -O3", "clang -O2", "clang -O3"};
 
-/* The jobs of the first table; goal: the least ratio, 0 where none is judged. */
+/* The jobs of the first table; sort: of the scene that it is done on; goal: the least ratio, 0 where none is judged. */
 static const struct {
   const char *name;
+  const struct sort *sort;
   void (*run)(const struct job *, long), (*limit)(const struct job *, long);
   double goal;
 } JOBS[] = {
-    {"row copy, 6,000 pixels, 3,000 lines in order, a row", run_rows, copy_rows, 0.95},
-    {"row copy, 6,000 pixels, the same line again, a row", run_row, copy_row, 0.9},
-    {"closed walk, 3,000 lines of 12,192 bytes, a line", run_walk, touch_lines, 0.9},
-    {"line view, lines at random, a view", run_random, touch_random, 0.5},
-    {"line view, line 1", run_line, touch_line, 0.5},
-    {"thirteen listed fields, a field", run_fields, touch_fields, 0.5},
+    {"row copy, 6,000 pixels, 3,000 lines in order, a row", &COUNTS, run_rows, copy_rows, 0.95},
+    {"row copy, 6,000 pixels, the same line again, a row", &COUNTS, run_row, copy_row, 0.9},
+    {"complex row copy, 6,000 samples, 750 lines in order, a row", &COMPLEX, run_complex_rows, copy_rows, 0.95},
+    {"complex row copy, 6,000 samples, the same line again, a row", &COMPLEX, run_complex_row, copy_row, 0.9},
+    {"closed walk, 3,000 lines of 12,192 bytes, a line", &COUNTS, run_walk, touch_lines, 0.9},
+    {"line view, lines at random, a view", &COUNTS, run_random, touch_random, 0.5},
+    {"line view, line 1", &COUNTS, run_line, touch_line, 0.5},
+    {"thirteen listed fields, a field", &COUNTS, run_fields, touch_fields, 0.5},
 };
 #define JOB_COUNT (sizeof JOBS / sizeof *JOBS)
 
@@ -149,13 +152,21 @@ static void compare(const char *what, struct job j, void (*limit)(const struct j
   print_goal(ratio.median, goal, 1e9);
 }
 
-static void jobs(const struct image *scene, const struct leader *leader) {
+/* An image of so many lines of PIXELS samples, without fill and suffix. */
+static struct image scene_of(const struct sort *sort, size_t n) {
+  return make_image(sort, n, sort->ahead + sort->group * PIXELS, PIXELS, 0, 0);
+}
+
+static void jobs(const struct image *counts_scene, const struct leader *leader) {
+  struct image complex_scene = scene_of(&COMPLEX, 750); /* about as many bytes */
   puts("\n| job | ours, ns | the strongest opponent, ns | it is | ratio | limit, ns (limit / ours) | instructions, ours : it | goal |\n"
        "|---|---|---|---|---|---|---|---|");
   for (size_t i = 0; i < JOB_COUNT; i++) {
+    const struct image *scene = JOBS[i].sort == &COMPLEX ? &complex_scene : counts_scene;
     struct job j = {JOBS[i].run, NULL, scene, leader, 1, units(JOBS[i].run, scene), NULL};
     compare(JOBS[i].name, j, JOBS[i].limit, JOBS[i].goal, (int)i);
   }
+  free(complex_scene.bytes);
 }
 
 /* Whether the cost of a line view depends on the line's number: ours against ours. */
@@ -187,7 +198,7 @@ static void in_turn(const char *head, const char *what, struct job one, struct j
 
 /* A card's numbers against the walk and the line views that give the same; then whether its cost grows as the card. */
 static void cards(const struct image *scene, const struct leader *leader) {
-  struct image few = make_image(300, 198, 3, 0, 0), many = make_image(30000, 198, 3, 0, 0);
+  struct image few = make_image(&COUNTS, 300, 198, 3, 0, 0), many = make_image(&COUNTS, 30000, 198, 3, 0, 0);
   struct card card = make_card(scene, leader), small = make_card(&few, leader), large = make_card(&many, leader);
   struct job reading = {run_card, &OURS, scene, leader, 1, scene->n, &card}, viewing = reading;
   viewing.run = run_views;
@@ -201,7 +212,7 @@ static void cards(const struct image *scene, const struct leader *leader) {
 
 /* The walk over images of that many lines and that many bytes a line. */
 static void walk_of(size_t n, size_t l, size_t w) {
-  struct image x = make_image(n, l, w, 0, 0);
+  struct image x = make_image(&COUNTS, n, l, w, 0, 0);
   struct job j = {run_walk, NULL, &x, NULL, 1, n, NULL};
   char what[100];
   snprintf(what, sizeof what, "walk, n = %zu, L = %zu, a line", n, l);
@@ -226,7 +237,7 @@ __attribute__((noinline)) void counted(const struct job *j, long times) { j->run
 
 static int count(size_t which, size_t who, long times) {
   if (which >= JOB_COUNT || who >= READERS) return 2;
-  struct image scene = make_image(300, FRONT_OF_LINE + 2 * PIXELS, PIXELS, 0, 0);
+  struct image scene = scene_of(JOBS[which].sort, 300);
   struct leader leader;
   make_leader(&leader);
   draw_lines(scene.n);
@@ -267,7 +278,7 @@ int main(int argc, char **argv) {
   for (int c = 1; c < READERS; c++) asked += agree(READER[c]);
   printf("Ours gave the same answers as each of the four to %llu questions in all. %d rounds, all contenders in turn; each "
          "figure is the median of the rounds, with the least and the most.\n", (unsigned long long)asked, rounds);
-  struct image scene = make_image(3000, FRONT_OF_LINE + 2 * PIXELS, PIXELS, 0, 0);
+  struct image scene = scene_of(&COUNTS, 3000);
   struct leader leader;
   make_leader(&leader);
   draw_lines(scene.n);

@@ -9,6 +9,7 @@
 
 static volatile uint64_t sink;
 static uint16_t row[PIXELS];
+static uint32_t parts[2 * PIXELS];
 static uint64_t numbers[RANDOM]; /* line numbers at random */
 
 void draw_lines(size_t n) {
@@ -45,6 +46,23 @@ void run_row(const struct job *j, long times) {
   for (; times > 0; times--) {
     j->reader->row(j->image->bytes, j->image->len, j->line, row, PIXELS, answer, SBG_ANSWER);
     sink += answer[SBG_A] + row[0];
+  }
+}
+
+void run_complex_rows(const struct job *j, long times) {
+  uint64_t answer[SBG_ANSWER], line = 0;
+  for (; times > 0; times--) {
+    line = line % j->image->n + 1;
+    j->reader->complex_row(j->image->bytes, j->image->len, line, parts, 2 * PIXELS, answer, SBG_ANSWER);
+    sink += answer[SBG_A] + parts[line];
+  }
+}
+
+void run_complex_row(const struct job *j, long times) {
+  uint64_t answer[SBG_ANSWER];
+  for (; times > 0; times--) {
+    j->reader->complex_row(j->image->bytes, j->image->len, j->line, parts, 2 * PIXELS, answer, SBG_ANSWER);
+    sink += answer[SBG_A] + parts[0];
   }
 }
 
@@ -93,19 +111,24 @@ static uint64_t touched(const uint8_t *from, size_t bytes) {
   return sum;
 }
 
+/* A line's pixels; the parts' room holds those of counts too. */
+static void copy_pixels(const struct image *x, uint64_t line) {
+  memcpy(parts, line_at(x, line) + x->sort->ahead, x->sort->group * x->w);
+}
+
 void copy_rows(const struct job *j, long times) {
   uint64_t line = 0;
   for (; times > 0; times--) {
     line = line % j->image->n + 1;
-    memcpy(row, line_at(j->image, line) + FRONT_OF_LINE, 2 * j->image->w);
-    sink += row[line];
+    copy_pixels(j->image, line);
+    sink += parts[line];
   }
 }
 
 void copy_row(const struct job *j, long times) {
   for (; times > 0; times--) {
-    memcpy(row, line_at(j->image, j->line) + FRONT_OF_LINE, 2 * j->image->w);
-    sink += row[0];
+    copy_pixels(j->image, j->line);
+    sink += parts[0];
   }
 }
 

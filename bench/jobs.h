@@ -6,7 +6,6 @@
 #include "scene.h"
 
 #define PIXELS 6000
-#define FRONT_OF_LINE 192 /* bytes of a line's record ahead of its pixels */
 
 struct card;
 
@@ -20,16 +19,18 @@ struct job {
   const struct card *card; /* the card that is read, where one is */
 };
 
-/* Readers: a closed walk from a fresh state; the rows in order; one row again; one line's view; views of
- * lines at random; the thirteen listed fields. */
+/* Readers: a closed walk from a fresh state; the rows in order; one row again; the same two of complex rows; one
+ * line's view; views of lines at random; the thirteen listed fields. */
 void run_walk(const struct job *, long times);
 void run_rows(const struct job *, long times);
 void run_row(const struct job *, long times);
+void run_complex_rows(const struct job *, long times);
+void run_complex_row(const struct job *, long times);
 void run_line(const struct job *, long times);
 void run_random(const struct job *, long times);
 void run_fields(const struct job *, long times);
 
-/* Limits, which check nothing: memcpy of the pixels in order, and of one line's; each line's 32 bytes
+/* Limits, which check nothing: memcpy of the pixels in order, and of one line's, of either sort; each line's 32 bytes
  * touched; the bytes that a view reads, of one line and at random; the fields' bytes. */
 void copy_rows(const struct job *, long times);
 void copy_row(const struct job *, long times);

@@ -1,7 +1,8 @@
-/* The same jobs as the library's, as a C programmer writes them by hand from document 01: every check,
+/* The same jobs as the library's, as a C programmer writes them by hand from docs/RULES.md: every check,
  * every refusal, no tricks. It is in a file of its own, so that nothing is inlined into the timing. */
 #include "plain.h"
 
+#include <endian.h>
 #include <string.h>
 
 #define FIRST 720 /* bytes of an image's first record */
@@ -109,8 +110,15 @@ static uint64_t plain_field(const uint8_t *bytes, size_t len, uint64_t number, i
 /* ---- records of an image ---- */
 
 struct plan {
-  uint64_t n, l, w, d, s;
+  uint64_t n, l, w, d, s, sort;
 };
+
+/* The sorts of samples: the text at 429, bytes a group, bytes ahead of the pixels, a line's codes. */
+static const struct {
+  char text[5];
+  uint64_t group, ahead;
+  uint32_t codes;
+} SORT[2] = {{"IU2 ", 2, 192, 0x320b1214}, {"C*8 ", 8, 412, 0x320a1214}};
 
 /* What is wrong with a record and where in it; number 0 where nothing is. */
 struct fault {
@@ -129,9 +137,9 @@ static inline uint32_t four(const uint8_t *b) {
 }
 
 /* Sequence number, codes, length. Record k is counted from 0. */
-static inline struct fault header(const uint8_t *b, uint64_t k, uint64_t length) {
+static inline struct fault header(const uint8_t *b, uint64_t k, uint32_t codes, uint64_t length) {
   if (four(b) != k + 1) return fault(3, 0);
-  if (four(b + 4) != (k == 0 ? 0x32c01212 : 0x320b1214)) return fault(4, 4);
+  if (four(b + 4) != codes) return fault(4, 4);
   if (four(b + 8) != length) return fault(5, 8);
   return FINE;
 }
@@ -152,16 +160,18 @@ static struct fault descriptor(const uint8_t *r, struct plan *plan) {
   uint64_t group, channels, lines;
   struct fault f;
   if (memcmp(r + 12, "A ", 2) != 0) return fault(8, 12);
-  if (memcmp(r + 428, "IU2 ", 4) != 0) return fault(8, 428);
+  p.sort = memcmp(r + 428, SORT[SBG_SORT_COMPLEX].text, 4) == 0 ? SBG_SORT_COMPLEX : SBG_SORT_COUNTS;
+  if (memcmp(r + 428, SORT[p.sort].text, 4) != 0) return fault(8, 428);
+  uint64_t due = SORT[p.sort].group;
   if ((f = needed(r, 181, I6, 1, 999999, &p.n)).number) return f;
   if ((f = needed(r, 187, I6, 1, 999999, &p.l)).number) return f;
-  if ((f = needed(r, 225, I4, 2, 2, &group)).number) return f;
+  if ((f = needed(r, 225, I4, due, due, &group)).number) return f;
   if ((f = needed(r, 233, I4, 1, 1, &channels)).number) return f;
   if ((f = needed(r, 237, I8, 1, 99999999, &lines)).number) return f;
   if ((f = needed(r, 249, I8, 1, 99999999, &p.w)).number) return f;
   if ((f = needed(r, 281, I8, 1, 99999999, &p.d)).number) return f;
   if ((f = needed(r, 289, I4, 0, 9999, &p.s)).number) return f;
-  if (p.n != lines || p.d != 2 * p.w || 192 + p.d + p.s > p.l) return fault(8, 0);
+  if (p.n != lines || p.d != due * p.w || SORT[p.sort].ahead + p.d + p.s > p.l) return fault(8, 0);
   *plan = p;
   return FINE;
 }
@@ -184,13 +194,13 @@ static void short_of(uint64_t *answer, uint64_t missing, int closed, uint64_t k,
 
 /* Steps 4 to 6 of a turn for record k, and what its header says: 1 if it is whole and the header right,
  * else 0 with the answer told. */
-static inline int opened(const uint8_t *b, size_t len, uint64_t k, uint64_t start, uint64_t length,
-                         int closed, uint64_t *answer) {
+static inline int opened(const uint8_t *b, size_t len, uint64_t k, uint64_t start, uint32_t codes,
+                         uint64_t length, int closed, uint64_t *answer) {
   if (len < FRONT) {
     short_of(answer, FRONT - len, closed, k, start);
     return 0;
   }
-  struct fault f = header(b, k, length);
+  struct fault f = header(b, k, codes, length);
   if (f.number != 0) {
     tell(answer, SBG_REFUSED, f.number, k + 1, start + f.place, 0);
     return 0;
@@ -204,7 +214,7 @@ static inline int opened(const uint8_t *b, size_t len, uint64_t k, uint64_t star
 
 /* The first record's turn: 1 if it passed, with the plan written, else 0 with the answer told. */
 static int first_turn(struct plan *p, const uint8_t *b, size_t len, int closed, uint64_t *answer) {
-  if (!opened(b, len, 0, 0, FIRST, closed, answer)) return 0;
+  if (!opened(b, len, 0, 0, 0x32c01212, FIRST, closed, answer)) return 0;
   struct fault f = descriptor(b, p);
   if (f.number == 0) return 1;
   tell(answer, SBG_REFUSED, f.number, 1, f.place, 0);
@@ -222,7 +232,7 @@ static inline int line_turn(const struct plan *p, uint64_t k, const uint8_t *b, 
     else tell(answer, closed ? SBG_COMPLETE : SBG_WAIT, 0, 0, 0, 0);
     return 0;
   }
-  if (!opened(b, len, k, start, p->l, closed, answer)) return 0;
+  if (!opened(b, len, k, start, SORT[p->sort].codes, p->l, closed, answer)) return 0;
   struct fault f = line_body(b, k, p->w);
   if (f.number == 0) return 1;
   tell(answer, SBG_REFUSED, f.number, k + 1, start + f.place, 0);
@@ -232,9 +242,9 @@ static inline int line_turn(const struct plan *p, uint64_t k, const uint8_t *b, 
 static int in_range(uint64_t lo, uint64_t x, uint64_t hi) { return lo <= x && x <= hi; }
 
 static int good_plan(const struct plan *p) {
-  return in_range(1, p->n, 999999) && in_range(1, p->l, 999999) && in_range(1, p->w, 99999999) &&
-         in_range(1, p->d, 99999999) && p->s <= 9999 && p->d == 2 * p->w &&
-         192 + p->d + p->s <= p->l;
+  return p->sort < 2 && in_range(1, p->n, 999999) && in_range(1, p->l, 999999) &&
+         in_range(1, p->w, 99999999) && in_range(1, p->d, 99999999) && p->s <= 9999 &&
+         p->d == SORT[p->sort].group * p->w && SORT[p->sort].ahead + p->d + p->s <= p->l;
 }
 
 /* The state rule, for an image. */
@@ -242,7 +252,7 @@ static int good_state(const uint64_t *state, const struct plan *p) {
   if (state[SBG_KIND] != SBG_IMAGE) return 0;
   for (int i = SBG_POINTERS; i < SBG_N; i++)
     if (state[i] != 0) return 0;
-  if (state[SBG_PASSED] == 0) return (p->n | p->l | p->w | p->d | p->s) == 0;
+  if (state[SBG_PASSED] == 0) return (p->n | p->l | p->w | p->d | p->s | p->sort) == 0;
   return good_plan(p) && state[SBG_PASSED] <= p->n + 1;
 }
 
@@ -258,7 +268,7 @@ static uint64_t plain_begin(uint64_t kind, uint64_t *state, size_t state_len, ui
 static uint64_t plain_walk(uint64_t *state, size_t state_len, const uint8_t *bytes, size_t len,
                     uint64_t closed, uint64_t budget, uint64_t *answer, size_t answer_len) {
   if (state_len < SBG_STATE || answer_len < SBG_ANSWER) return 0;
-  struct plan p = {state[SBG_N], state[SBG_L], state[SBG_W], state[SBG_D], state[SBG_S]};
+  struct plan p = {state[SBG_N], state[SBG_L], state[SBG_W], state[SBG_D], state[SBG_S], state[SBG_SORT]};
   if (!good_state(state, &p)) return refuse(answer, 11);
   uint64_t k = state[SBG_PASSED], count = 0;
   const uint8_t *end = bytes + len;
@@ -278,33 +288,26 @@ static uint64_t plain_walk(uint64_t *state, size_t state_len, const uint8_t *byt
   state[SBG_W] = p.w;
   state[SBG_D] = p.d;
   state[SBG_S] = p.s;
+  state[SBG_SORT] = p.sort;
   return 1;
 }
 
 /* ---- lines and rows ---- */
 
-/* The line view: tells shown, a wait or a refusal. */
-static void find(const uint8_t *bytes, size_t len, uint64_t line, uint64_t *answer) {
-  struct plan p = {0, 0, 0, 0, 0};
-  if (!first_turn(&p, bytes, len, 0, answer)) return;
-  if (line < 1 || line > p.n) {
-    refuse(answer, 13);
-    return;
-  }
+/* The line view: tells shown, a wait or a refusal. It returns the sort where the line is shown, else any number. */
+static uint64_t find(const uint8_t *bytes, size_t len, uint64_t line, uint64_t *answer) {
+  struct plan p = {0, 0, 0, 0, 0, 0};
+  if (!first_turn(&p, bytes, len, 0, answer)) return 0;
+  if (line < 1 || line > p.n) return refuse(answer, 13);
   uint64_t start = line_start(&p, line);
-  if (len < start + p.l) {
-    tell(answer, SBG_WAIT, start + p.l - len, 0, 0, 0);
-    return;
-  }
+  if (len < start + p.l) return tell(answer, SBG_WAIT, start + p.l - len, 0, 0, 0);
   const uint8_t *r = bytes + start;
-  struct fault f = header(r, line, p.l);
+  struct fault f = header(r, line, SORT[p.sort].codes, p.l);
   if (f.number == 0) f = line_body(r, line, p.w);
-  if (f.number != 0) {
-    tell(answer, SBG_REFUSED, f.number, line + 1, start + f.place, 0);
-    return;
-  }
+  if (f.number != 0) return tell(answer, SBG_REFUSED, f.number, line + 1, start + f.place, 0);
   uint64_t left = four(r + 20), data = four(r + 24);
-  tell(answer, SBG_SHOWN, start + p.l - p.s - p.d + 2 * left, data, left, 0);
+  tell(answer, SBG_SHOWN, start + p.l - p.s - p.d + SORT[p.sort].group * left, data, left, 0);
+  return p.sort;
 }
 
 static uint64_t plain_line(const uint8_t *bytes, size_t len, uint64_t line, uint64_t *answer,
@@ -322,12 +325,35 @@ static void copy(const uint8_t *restrict px, size_t count, uint16_t *restrict ro
 static uint64_t plain_row(const uint8_t *bytes, size_t len, uint64_t line, uint16_t *row, size_t row_len,
                    uint64_t *answer, size_t answer_len) {
   if (answer_len < SBG_ANSWER) return 0;
-  find(bytes, len, line, answer);
+  uint64_t sort = find(bytes, len, line, answer);
   if (answer[SBG_TAG] != SBG_SHOWN) return 1;
   uint64_t start = answer[SBG_A], count = answer[SBG_B];
+  if (sort != SBG_SORT_COUNTS) return refuse(answer, 23);
   if (row_len < count) return refuse(answer, 15);
   copy(bytes + start, count, row);
   return tell(answer, SBG_COPIED, count, 0, 0, 0);
 }
 
-const struct reader PLAIN = {plain_begin, plain_walk, plain_field, plain_line, plain_row};
+/* Four bytes a part, high byte first. Of the usual ways to write it the one that becomes the fastest code: by
+ * shifts, as in four, no compiler here makes vectors of it. */
+static void copy_parts(const uint8_t *restrict px, size_t count, uint32_t *restrict row) {
+  for (size_t j = 0; j < count; j++) {
+    uint32_t part;
+    memcpy(&part, px + 4 * j, sizeof part);
+    row[j] = be32toh(part);
+  }
+}
+
+static uint64_t plain_complex_row(const uint8_t *bytes, size_t len, uint64_t line, uint32_t *row,
+                                  size_t row_len, uint64_t *answer, size_t answer_len) {
+  if (answer_len < SBG_ANSWER) return 0;
+  uint64_t sort = find(bytes, len, line, answer);
+  if (answer[SBG_TAG] != SBG_SHOWN) return 1;
+  uint64_t start = answer[SBG_A], count = answer[SBG_B];
+  if (sort != SBG_SORT_COMPLEX) return refuse(answer, 23);
+  if (row_len < 2 * count) return refuse(answer, 15);
+  copy_parts(bytes + start, 2 * count, row);
+  return tell(answer, SBG_COPIED, count, 0, 0, 0);
+}
+
+const struct reader PLAIN = {plain_begin, plain_walk, plain_field, plain_line, plain_row, plain_complex_row};

@@ -11,6 +11,7 @@ struct reader {
   uint64_t (*field)(const uint8_t *, size_t, uint64_t, int64_t *, size_t, uint64_t *, size_t);
   uint64_t (*line)(const uint8_t *, size_t, uint64_t, uint64_t *, size_t);
   uint64_t (*row)(const uint8_t *, size_t, uint64_t, uint16_t *, size_t, uint64_t *, size_t);
+  uint64_t (*complex_row)(const uint8_t *, size_t, uint64_t, uint32_t *, size_t, uint64_t *, size_t);
 };
 
 /* The library, and the plain C by each compiler. */

@@ -1,5 +1,5 @@
 /* Scenes for the benchmark: an image with as many lines, pixels and bytes a line as wanted, and the
- * two records of a leader that have listed fields. The texts stand where document 01 says. */
+ * two records of a leader that have listed fields. The texts stand where docs/RULES.md says. */
 #include "scene.h"
 
 #include <stdio.h>
@@ -7,6 +7,8 @@
 #include <string.h>
 
 #define FIRST 720
+
+const struct sort COUNTS = {"IU2 ", 2, 192, 0x320b1214}, COMPLEX = {"C*8 ", 8, 412, 0x320a1214};
 
 static void put_four(uint8_t *b, uint64_t x) {
   for (int i = 0; i < 4; i++) b[i] = (uint8_t)(x >> (24 - 8 * i));
@@ -33,30 +35,31 @@ static void put_descriptor(uint8_t *r, const struct image *x) {
   memset(r, ' ', FIRST);
   open_record(r, 1, 0x32c01212, FIRST);
   put_text(r, 13, "A ");
-  put_text(r, 429, "IU2 ");
+  put_text(r, 429, x->sort->text);
   put_number(r, 181, 6, x->n);
   put_number(r, 187, 6, x->l);
-  put_number(r, 225, 4, 2);
+  put_number(r, 225, 4, x->sort->group);
   put_number(r, 233, 4, 1);
   put_number(r, 237, 8, x->n);
   put_number(r, 249, 8, x->w);
-  put_number(r, 281, 8, 2 * x->w);
+  put_number(r, 281, 8, x->sort->group * x->w);
   put_number(r, 289, 4, x->s);
 }
 
 static void put_line(uint8_t *r, const struct image *x, size_t k, size_t left) {
   memset(r, 0, x->l);
-  open_record(r, k + 1, 0x320b1214, x->l);
+  open_record(r, k + 1, x->sort->codes, x->l);
   put_four(r + 12, k);
   put_four(r + 16, 1);
   put_four(r + 20, left);
   put_four(r + 24, x->w - left);
-  uint8_t *px = r + x->l - x->s - 2 * x->w;
-  for (size_t j = 0; j < 2 * x->w; j++) px[j] = (uint8_t)(31 * j + 17 * k + j / 97);
+  size_t bytes = x->sort->group * x->w;
+  uint8_t *px = r + x->l - x->s - bytes;
+  for (size_t j = 0; j < bytes; j++) px[j] = (uint8_t)(31 * j + 17 * k + j / 97);
 }
 
-struct image make_image(size_t n, size_t l, size_t w, size_t s, size_t left) {
-  struct image x = {n, l, w, s, NULL, FIRST + n * l};
+struct image make_image(const struct sort *sort, size_t n, size_t l, size_t w, size_t s, size_t left) {
+  struct image x = {sort, n, l, w, s, NULL, FIRST + n * l};
   x.bytes = malloc(x.len);
   if (x.bytes == NULL) {
     fprintf(stderr, "bench: no memory for an image of %zu bytes\n", x.len);

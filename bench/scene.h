@@ -5,7 +5,17 @@
 #include <stddef.h>
 #include <stdint.h>
 
+/* A sort of samples: the text at byte 429, bytes a group, bytes of a line's record ahead of its pixels, codes. */
+struct sort {
+  const char *text;
+  size_t group, ahead;
+  uint32_t codes;
+};
+
+extern const struct sort COUNTS, COMPLEX;
+
 struct image {
+  const struct sort *sort;
   size_t n, l, w, s; /* lines, bytes a line record, pixels a line, suffix bytes */
   uint8_t *bytes;
   size_t len;
@@ -21,7 +31,7 @@ struct leader {
 
 /* A valid image; line k has k * left fill pixels on the left and none on the right. Ends the program
  * where there is no memory. */
-struct image make_image(size_t n, size_t l, size_t w, size_t s, size_t left);
+struct image make_image(const struct sort *sort, size_t n, size_t l, size_t w, size_t s, size_t left);
 
 /* A record each of a leader with the thirteen listed fields written. */
 void make_leader(struct leader *x);

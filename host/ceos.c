@@ -60,8 +60,9 @@ static struct names names(const char *(*name)(size_t), size_t count, const char 
 
 static const char ABOUT[] =
     "NAME\n"
-    "  ceos - looks at the files of a CEOS SAR product (PALSAR; of JERS-1, by its own tables, no leader,\n"
-    "         image or trailer is accepted, only a volume directory can be)\n"
+    "  ceos - looks at the files of a CEOS SAR product (PALSAR, images of level 1.5 and complex ones of\n"
+    "         level 1.1; of JERS-1, by its own tables, no leader, image or trailer is accepted, only a\n"
+    "         volume directory can be)\n"
     "\n";
 
 static const char ANSWERS[] =
@@ -73,6 +74,7 @@ static const char ANSWERS[] =
     "    WAIT 9 BYTES RECORD 3 AT 918   so many bytes are missing to the next part of that record, which\n"
     "                                   starts there; what has come so far is good\n"
     "    AGREES 4 FILES                 every file is whole, and the directory tells their record counts\n"
+    "    SAMPLE 0 LINE 3 COUNT 513      the sample, or what else was asked of it\n"
     "    CARD 2 LINES 3 LEADERS 73 BYTES\n"
     "                                   so many lines and records of the leader are on the card\n";
 

@@ -18,11 +18,12 @@ struct decimal {
 
 struct field {
   const char *name;
-  enum { TEXT, NUMBER, DECIMAL } kind;
+  enum { TEXT, NUMBER, DECIMAL, FLOAT } kind;
   enum { BARE, AHEAD, BEHIND, TITLE } label;
   const char *text;
   uint64_t number;
   struct decimal decimal;
+  uint32_t bits;
 };
 
 /* The fields by how they look as text. The word that opens a row is its field "row": it says what row it is. */
@@ -32,6 +33,7 @@ struct field bare(const char *name, uint64_t number);           /* 3         */
 struct field ahead(const char *name, uint64_t number);          /* RECORD 3  */
 struct field behind(const char *name, uint64_t number);         /* 3 RECORDS */
 struct field exactly(const char *name, struct decimal decimal); /* -0.5000000, 1.0000000000000E+02 */
+struct field floating(const char *name, uint32_t bits);         /* REAL -1.5 */
 
 void say_fields(const struct field *fields, size_t count);
 
@@ -40,5 +42,10 @@ void say_fields(const struct field *fields, size_t count);
 
 /* Many numbers of one name, ten in a row. */
 void say_numbers(const char *name, const uint16_t *numbers, uint64_t count);
+
+/* So many complex samples of one name, each in a row of its own: the bits of its real part, then of its imaginary
+ * part, which are two floats. As text a float is the shortest number that reads back as the same bits, -0 apart
+ * from 0; what is no finite number is its bits, as 0x7fc00000. */
+void say_complex(const char *name, const uint32_t *parts, uint64_t count);
 
 #endif

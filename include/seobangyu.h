@@ -1,5 +1,6 @@
-/* Seobangyu: a reader of CEOS SAR products, from C: PALSAR. Of JERS-1, by its own tables, no leader,
- * image or trailer is accepted; only a volume directory can be (docs/SOURCES.md).
+/* Seobangyu: a reader of CEOS SAR products, from C: PALSAR, images of level 1.5 and complex ones of level
+ * 1.1. Of JERS-1, by its own tables, no leader, image or trailer is accepted; only a volume directory can be
+ * (docs/SOURCES.md).
  *
  * Every function takes any bytes and any numbers and ends with an answer; nothing is allocated, kept
  * or printed, so any number of threads may call. What each answers is proved (docs/PROMISES.md).
@@ -10,7 +11,7 @@
  *
  * An array that is too short gives 0, and nothing is written: neither state, value, row, card, list
  * nor answer. (A row, card or list that is too short is refused, by its own number.)
- * Numbers past the 42nd of a state, the 5th of an answer and the 2nd of a value stay as they are.
+ * Numbers past the 43rd of a state, the 5th of an answer and the 2nd of a value stay as they are.
  */
 #ifndef SEOBANGYU_H
 #define SEOBANGYU_H
@@ -23,7 +24,7 @@ extern "C" {
 #endif
 
 /* How many numbers a state, an answer and a value have. */
-#define SBG_STATE 42
+#define SBG_STATE 43
 #define SBG_ANSWER 5
 #define SBG_VALUE 2
 
@@ -34,7 +35,8 @@ extern "C" {
 #define SBG_TRAILER 4
 
 /* A state: kind, records passed, pointers; count and length of slots 1, 2, 3, 4, 5, 7, then of the
- * eleven facility pairs, count and length in turn; n, L, w, d, s. A state may be kept, copied and
+ * eleven facility pairs, count and length in turn; n, L, w, d, s; the sort of an image's samples, 0 for
+ * counts (`IU2 `) and for other files, 1 for complex ones (`C*8 `). A state may be kept, copied and
  * handed in again; numbers that break the state rule are refused with 11, and those that keep it are
  * taken, whoever made them. The rule: kind 1 to 4; where no record has passed, all behind these two
  * numbers is 0; else it is what a first record of that kind can name, the rest 0, and no more records
@@ -48,8 +50,13 @@ enum {
   SBG_L = 38,
   SBG_W = 39,
   SBG_D = 40,
-  SBG_S = 41
+  SBG_S = 41,
+  SBG_SORT = 42
 };
+
+/* The sorts of an image's samples, as a state has them: whole counts of 16 bits, or two 32-bit floats, real
+ * then imaginary. */
+enum { SBG_SORT_COUNTS = 0, SBG_SORT_COMPLEX = 1 };
 
 /* An answer: tag, a, b, c, count. Numbers that an answer does not use are 0. */
 enum { SBG_TAG = 0, SBG_A = 1, SBG_B = 2, SBG_C = 3, SBG_COUNT = 4 };
@@ -67,7 +74,10 @@ enum {
   SBG_COPIED = 8,   /* a: samples */
   SBG_AGREES = 9,   /* the set agrees with its directory */
   SBG_BUILT = 10,   /* a: bytes of the card */
-  SBG_CARD = 11     /* a: lines, b: leader entries */
+  SBG_CARD = 11,    /* a: lines, b: leader entries */
+  SBG_SAMPLE_COUNT = 12,   /* a: the count, 0 to 65,535 */
+  SBG_SAMPLE_COMPLEX = 13, /* a: the real part's 32 bits, b: the imaginary part's; every pattern kept */
+  SBG_POWER = 14           /* a: the power's 32 bits: a float that is finite and not negative */
 };
 
 /* All but sbg_start return 1 when they answered, and 0 where an array is too short. */
@@ -92,14 +102,35 @@ uint64_t sbg_start(const uint64_t *state, size_t state_len);
 uint64_t sbg_field(const uint8_t *bytes, size_t len, uint64_t number, int64_t *value,
                    size_t value_len, uint64_t *answer, size_t answer_len);
 
-/* Line 1 to n of an image whose bytes are held from byte 0, as far as they have come. */
+/* Line 1 to n of an image, of either sort, whose bytes are held from byte 0, as far as they have come. A data
+ * pixel takes two bytes from a on in an image of counts and eight in a complex one. */
 uint64_t sbg_line(const uint8_t *bytes, size_t len, uint64_t line, uint64_t *answer,
                   size_t answer_len);
 
-/* The line's data pixels as numbers to the row's start; samples past them stay. A row that is too
- * short is refused with 15; on a wait or a refusal every sample stays. */
+/* The line's data pixels as numbers to the row's start, for counts; samples past them stay. After the
+ * line's own wait or refusal a complex image is refused with 23 (sbg_complex_row copies it), then a row
+ * that is too short with 15; on a wait or a refusal every sample stays. w samples are always enough. */
 uint64_t sbg_row(const uint8_t *bytes, size_t len, uint64_t line, uint16_t *row, size_t row_len,
                  uint64_t *answer, size_t answer_len);
+
+/* The same for a complex image, bits kept: two numbers a sample, the 32 bits of the real part, then those of
+ * the imaginary part (a float of this machine by memcpy). After the line's own wait or refusal an image of
+ * counts is refused with 23, then a row of fewer than two numbers a sample with 15; on any of them every
+ * number stays, and so do those past the samples. 2w numbers are always enough. */
+uint64_t sbg_complex_row(const uint8_t *bytes, size_t len, uint64_t line, uint32_t *row,
+                         size_t row_len, uint64_t *answer, size_t answer_len);
+
+/* One sample of a line, of either sort: data pixel 0, 1, 2 .. behind the left fill. It is a count or two
+ * patterns of 32 bits. After the line's own wait or refusal an index that is not below the line's data
+ * pixels is refused with 36. */
+uint64_t sbg_sample(const uint8_t *bytes, size_t len, uint64_t line, uint64_t index,
+                    uint64_t *answer, size_t answer_len);
+
+/* The power of a complex sample in single precision: real times real, imaginary times imaginary, then the
+ * sum, each rounded once to the nearest, ties to even. After the line's own wait or refusal: 23 for counts,
+ * 36 as above, 24 where a part or the power is no finite number. */
+uint64_t sbg_power(const uint8_t *bytes, size_t len, uint64_t line, uint64_t index,
+                   uint64_t *answer, size_t answer_len);
 
 /* A closed directory (volume file), and the record counts of the product's files in pointer order. */
 uint64_t sbg_set(const uint8_t *bytes, size_t len, const uint64_t *counts, size_t counts_len,

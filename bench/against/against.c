@@ -159,7 +159,7 @@ static void compare(const char *what, void (*job)(const struct library *, long),
 }
 
 static void see_same(const struct library *old, const struct library *new, const struct file *f, uint64_t kind, uint64_t records) {
-  uint64_t s[SBG_STATE], t[SBG_STATE], a[SBG_ANSWER], b[SBG_ANSWER];
+  uint64_t s[SBG_STATE] = {0}, t[SBG_STATE] = {0}, a[SBG_ANSWER], b[SBG_ANSWER]; /* an older state may have fewer numbers */
   for (uint64_t budget = 1; budget < 100; budget += 33) {
     by_budget(old, f, kind, budget, s, a);
     by_budget(new, f, kind, budget, t, b);

@@ -5,6 +5,7 @@ Every command on drawn files, whole, damaged and cut, closed and open; the listi
 sets; files that are empty, missing, no file, or change while they are read; large ones, with their memory; use and help; progress on a
 terminal. It says what it tried and how many checks that were, and exits with 1 at the first difference."""
 import fcntl
+import fractions  # noqa: F401  (for the oracle: once tests/examples is on the path, its numbers.py stands for the one that this needs)
 import os
 import pty
 import random
@@ -26,6 +27,8 @@ from commands import TESTS  # noqa: E402
 from running import NATIVE, Ran, Wrong, all_parts, checks, hold  # noqa: E402
 import make  # noqa: E402  (commands.py puts tests/oracle on the path)
 import reader as oracle  # noqa: E402
+import samples as complex_samples  # noqa: E402
+from floats import spelt_rows  # noqa: E402
 from reader import EVERY_RECORD, IMAGE, LEADER, N, TRAILER, VOLUME, Answer, State  # noqa: E402
 
 HOME = TESTS.parent
@@ -145,12 +148,20 @@ def line_case(data: bytes, line: int, closed: bool = True) -> Case:
     if view[0] == 'wait':
         return Case([*opening(closed), 'line'], [data], [line], f'WAIT {view[1]} BYTES\n', WAITING)
     _, start, samples, left = view
+    state = walked(IMAGE, data, False)[0]
+    rows = f'LINE {line} START {start} DATA {samples} LEFT {left} RIGHT {state[oracle.W] - left - samples}\n'
+    return Case(['line', *opening(closed)], [data], [line], rows + sample_rows(data, line, samples, state[oracle.SORT]), ACCEPTED)
+
+
+def sample_rows(data: bytes, line: int, samples: int, sort: int) -> str:
+    """Counts ten in a row; of complex samples one."""
+    if sort == oracle.COMPLEX:
+        copied, parts = complex_samples.complex_row(data, line, [0] * (2 * samples))
+        assert copied == ('copied', samples)
+        return spelt_rows(parts)
     copied, row = oracle.row_copy(data, line, [0] * samples)
     assert copied == ('copied', samples)
-    right = walked(IMAGE, data, False)[0][oracle.W] - left - samples
-    rows = f'LINE {line} START {start} DATA {samples} LEFT {left} RIGHT {right}\n'
-    rows += ''.join(' '.join(map(str, row[j:j + 10])) + '\n' for j in range(0, samples, 10))
-    return Case(['line', *opening(closed)], [data], [line], rows, ACCEPTED)
+    return ''.join(' '.join(map(str, row[j:j + 10])) + '\n' for j in range(0, samples, 10))
 
 
 PLACES = {'F8.3': 3, 'F16.7': 7, 'E20.13': 13, 'I16': 0}
@@ -309,7 +320,8 @@ def sets() -> str:
 
 
 def on_each(path: Any) -> list[list[Any]]:
-    return [['walk', 'image', path], ['list', path], ['list', '--open', path], ['line', path, 1], ['fields', path], ['set', path, path, path]]
+    return [['walk', 'image', path], ['list', path], ['list', '--open', path], ['line', path, 1], ['fields', path], ['set', path, path, path],
+            ['sample', path, 1, 0], ['power', path, 1, 0]]
 
 
 def no_files() -> str:
@@ -327,13 +339,14 @@ def no_files() -> str:
     filed('-x', good.read_bytes())
     hold('a name with a hyphen', ran('list', '--', '-x', cwd=folder).status, ACCEPTED)
     hold('the same without --', ran('list', '-x', cwd=folder).status, FAILED)
-    return f'{len(ways)} names of no file, each with 6 commands'
+    return f'{len(ways)} names of no file, each with 8 commands'
 
 
 def wrong_use() -> str:
     ways = [[], ['walk'], ['walk', 'image'], ['walk', 'picture', 'x'], ['walk', '', 'x'], ['walk', '3x', 'x'], ['walk', 'image', 'x', 'y'],
             ['list'], ['list', 'x', 'y'], ['line', 'x'], ['line', 'x', 'y'], ['line', 'x', ''], ['line', 'x', '1.5'], ['line', 'x', '+1'],
-            ['line', 'x', ' 1'], ['line', 'x', 2 ** 64], ['fields'], ['set'], ['set', 'x'], ['set', 'x', 'y'], ['show', 'x'], [''], ['--close', 'list', 'x']]
+            ['line', 'x', ' 1'], ['line', 'x', 2 ** 64], ['sample', 'x', 1], ['sample', 'x', 1, 0, 0], ['sample', 'x', 'y', 0], ['sample', 'x', 1, ''],
+            ['power', 'x', 1], ['power', 'x', 1, '1.5'], ['power', 'x', 1, 2 ** 64], ['power', 'x', 2 ** 64, 1], ['power', 'x', 1, '0x1'], ['fields'], ['set'], ['set', 'x'], ['set', 'x', 'y'], ['show', 'x'], [''], ['--close', 'list', 'x']]
     for words in [*ways, ['line', 'x', '--', '-1']]:
         found = ran(*words)
         hold(f'{words}', (found.status, found.rows), (FAILED, ''))
