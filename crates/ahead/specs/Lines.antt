@@ -11,12 +11,12 @@ use Rattle.verdicts.specs.Tests.{allHold}
 use Rattle.image.specs.Image.{lineTests}
 use Rattle.headers.specs.Header.{headerTests}
 
--- whether line k's record begins these bytes, is whole, has room for a line's numbers, and holds what it must
-unfoldable pub lineFine : ℕ → ℕ → ℕ → List ℕ → Bool
-lineFine w l k b =
-    pick (ltb (length b) l) false (pick (ltb l 32) false (bothOf (allHold (headerTests (k + 1) (lineCodes 0) l b)) (allHold (lineTests w k (take l b)))))
+-- whether line k's record, of that sort, begins these bytes, is whole, has room for a line's numbers, and holds what it must
+unfoldable pub lineFine : ℕ → ℕ → ℕ → ℕ → List ℕ → Bool
+lineFine sort w l k b =
+    pick (ltb (length b) l) false (pick (ltb l 32) false (bothOf (allHold (headerTests (k + 1) (lineCodes sort) l b)) (allHold (lineTests w k (take l b)))))
 
 -- how many are so from line k on, at most so many
-unfoldable pub linesFine : ℕ → ℕ → ℕ → ℕ → List ℕ → ℕ
-linesFine w l k zero b = 0
-linesFine w l k (suc most) b = pick (lineFine w l k b) (suc (linesFine w l (suc k) most (drop l b))) 0
+unfoldable pub linesFine : ℕ → ℕ → ℕ → ℕ → ℕ → List ℕ → ℕ
+linesFine sort w l k zero b = 0
+linesFine sort w l k (suc most) b = pick (lineFine sort w l k b) (suc (linesFine sort w l (suc k) most (drop l b))) 0

@@ -7,10 +7,10 @@ ghost use Prim.Native.Nat.{_+_, _≤_};
 ghost use Rattle.plan.specs.Plan.{lineCodes, recordsMost};
 ghost use Rattle.ahead.specs.Lines.{lineFine, linesFine};
 
-// Line k's record begins these bytes, is whole, has room for a line's numbers, and holds what it must.
-fn line_fine(c: Codes, w: u64, l: u64, k: u64, b: &[u8]) -> bool
-    requires { ⌜ (c ≡ lineCodes 0) × (k ≤ recordsMost) ⌝ }
-    ensures { λ r. ⌜ r ≡ lineFine w l k (now (b .entry)) ⌝ }
+// Line k's record, of that sort, begins these bytes, is whole, has room for a line's numbers, and holds what it must.
+fn line_fine(sort: u64, c: Codes, w: u64, l: u64, k: u64, b: &[u8]) -> bool
+    requires { ⌜ (c ≡ lineCodes sort) × (k ≤ recordsMost) ⌝ }
+    ensures { λ r. ⌜ r ≡ lineFine sort w l k (now (b .entry)) ⌝ }
 {
     if (b.len() as u64) < l {
         return false;
@@ -27,15 +27,15 @@ fn line_fine(c: Codes, w: u64, l: u64, k: u64, b: &[u8]) -> bool
 }
 
 // How many lines from line k on pass one after the other, at most that many.
-pub fn lines_ahead(w: u64, l: u64, k: u64, most: u64, b: &[u8]) -> u64
+pub fn lines_ahead(sort: u64, w: u64, l: u64, k: u64, most: u64, b: &[u8]) -> u64
     requires { ⌜ k + most ≤ recordsMost ⌝ }
-    ensures { λ r. ⌜ r ≡ linesFine w l k most (now (b .entry)) ⌝ }
+    ensures { λ r. ⌜ r ≡ linesFine sort w l k most (now (b .entry)) ⌝ }
 {
-    let codes = plan::line_codes(0);
+    let codes = plan::line_codes(sort);
     let mut c: u64 = 0;
     let mut at: usize = 0;
     while c < most {
-        if !line_fine(codes, w, l, k + c, &b[at..]) {
+        if !line_fine(sort, codes, w, l, k + c, &b[at..]) {
             return c;
         }
         at += l as usize;

@@ -34,7 +34,8 @@ fn slots_zero(p: Plan) -> bool
 fn image_zero(p: Plan) -> bool
     ensures { λ r. ⌜ r ≡ imageZero? p ⌝ }
 {
-    let tail = words::both(words::is(p.d, 0), words::is(p.s, 0));
+    let last = words::both(words::is(p.s, 0), words::is(p.sort, 0));
+    let tail = words::both(words::is(p.d, 0), last);
     let body = words::both(words::is(p.l, 0), words::both(words::is(p.w, 0), tail));
     words::both(words::is(p.n, 0), body)
 }
@@ -97,7 +98,11 @@ fn leader_good(p: Plan) -> bool
 fn image_ranges(p: Plan) -> bool
     ensures { λ r. ⌜ r ≡ imageRanges p ⌝ }
 {
-    let tail = words::both(words::within(1, p.d, 99999999), words::within(0, p.s, 9999));
+    let last = words::both(
+        words::within(0, p.s, 9999),
+        words::within(0, p.sort, plan::COMPLEX),
+    );
+    let tail = words::both(words::within(1, p.d, 99999999), last);
     let body = words::both(words::within(1, p.w, 99999999), tail);
     words::both(
         words::within(1, p.n, 999999),
@@ -111,8 +116,9 @@ fn image_good(p: Plan) -> bool
 {
     if image_ranges(p) {
         let unused = words::both(words::is(p.pointers, 0), slots_zero(p));
-        let paired = words::is(p.d, plan::GROUP * p.w);
-        return words::both(unused, words::both(paired, plan::AHEAD + p.d + p.s <= p.l));
+        let sort = plan::sort_at(p.sort);
+        let paired = words::is(p.d, sort.group * p.w);
+        return words::both(unused, words::both(paired, sort.ahead + p.d + p.s <= p.l));
     }
     false
 }

@@ -23,21 +23,21 @@ abbrev pub volumeIn : Plan → VolumeDescribed → Found
 volumeIn z x = record {
   verdict = x .verdict;
   plan = record
-      { pointers = x .pointers; counts = z .counts; lengths = z .lengths; n = z .n; l = z .l; w = z .w; d = z .d; s = z .s };
+      { pointers = x .pointers; counts = z .counts; lengths = z .lengths; n = z .n; l = z .l; w = z .w; d = z .d; s = z .s; sort = z .sort };
 }
 
 abbrev pub leaderIn : Plan → LeaderDescribed → Found
 leaderIn z x = record {
   verdict = x .verdict;
   plan = record
-      { pointers = z .pointers; counts = x .counts; lengths = x .lengths; n = z .n; l = z .l; w = z .w; d = z .d; s = z .s };
+      { pointers = z .pointers; counts = x .counts; lengths = x .lengths; n = z .n; l = z .l; w = z .w; d = z .d; s = z .s; sort = z .sort };
 }
 
 abbrev pub imageIn : Plan → ImageDescribed → Found
 imageIn z x = record {
   verdict = x .verdict;
   plan = record
-      { pointers = z .pointers; counts = z .counts; lengths = z .lengths; n = x .n; l = x .l; w = x .w; d = x .d; s = x .s };
+      { pointers = z .pointers; counts = z .counts; lengths = z .lengths; n = x .n; l = x .l; w = x .w; d = x .d; s = x .s; sort = x .sort };
 }
 
 pub volume-found : (r : List ℕ) → volumeIn zeroPlan (volumes.describedOf r) ≡ firstOf volume r

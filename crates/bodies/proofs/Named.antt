@@ -10,19 +10,19 @@ use borrow.Author.Tests.{eqb-true, eqb-false, eq-eqb}
 use Rattle.words.specs.Tests.{pick, withinOf}
 use Rattle.words.proofs.Laws.{true-within}
 use Rattle.decimal.specs.declared.Form.the-variants.{I4, I6, I8}
-use Rattle.plan.specs.Tables.{rows, slotOf}
+use Rattle.plan.specs.Tables.{rows, slotOf, lastSort}
 use Rattle.plan.specs.Plan.{planGood, volumeGood, leaderGood, imageGood, zeroPlan?, allZero, slotGood, slotsGood}
 use Rattle.plan.specs.declared.Plan.{Plan}
 use Rattle.verdicts.specs.Numbers.{numberAt, numbersTests}
 use Rattle.volume.specs.Volume.{volumeNumbers, volumeTests, volumeRecord}
 use Rattle.leader.specs.Leader.{pair, pairs, pairRow, admitted, admittedPair, countAt, lengthAt, pairTests, leaderTests, leaderRecord, countsOf, lengthsOf}
-use Rattle.image.specs.Image.{imageNumbers, imageTexts, agreeTests, agreements, imageTests, imageRecord}
+use Rattle.image.specs.Image.{sortIn, imageNumbers, imageTexts, agreeTests, agreements, imageTests, imageRecord}
 use Rattle.bodies.specs.Bodies.{bodyTests, bodyOf}
 use Rattle.bodies.specs.Named.{planOf}
 use Rattle.verdicts.specs.declared.Verdict.the-variants.{Fine}
 use Rattle.verdicts.proofs.FillLaws.{map-at}
 use Rattle.verdicts.proofs.Holding.{Holds, fine-holds, holds-split, each-holds, row-holds}
-use Rattle.image.proofs.ImageLaws.{bounded}
+use Rattle.image.proofs.ImageLaws.{bounded, sort-in}
 use Rattle.leader.proofs.PairLaws.{length-none, count-in, length-in}
 use Rattle.leader.proofs.TableLaws.{admitted-bound, admitted-row}
 
@@ -80,14 +80,15 @@ leader-good r h = rw (slots-good 0 rows (countsOf r) (lengthsOf r) (λ k l u. ro
 image-good : (r : List ℕ) → Holds (imageTests r) → planGood 3 (planOf 3 r) ≡ true
 unfolding imageTests agreeTests planOf planGood imageGood allZero
 image-good r h =
-    let s = holds-split (numbersTests r imageNumbers) (agreements r) (h .1 .1) in
-    let b = bounded r (s .0) in
+    let s = holds-split (numbersTests r (imageNumbers (sortIn r))) (agreements r) (h .1 .1) in
+    let b = bounded (sortIn r) r (s .0) in
     rw (
       true-within 1 (numberAt r 181 I6) 999999 (b .n .0) (b .n .1),
       true-within 1 (numberAt r 187 I6) 999999 (b .l .0) (b .l .1),
       true-within 1 (numberAt r 249 I8) 99999999 (b .w .0) (b .w .1),
       true-within 1 (numberAt r 281 I8) 99999999 (b .d .0) (b .d .1),
       true-within 0 (numberAt r 289 I4) 9999 (b .s .0) (b .s .1),
+      true-within 0 (sortIn r) lastSort (omega arith) (sort-in r),
       s .1 .1 .0,
     ) (s .1 .1 .1 .0)
 

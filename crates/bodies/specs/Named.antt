@@ -16,14 +16,15 @@ use Rattle.verdicts.specs.declared.Verdict.the-variants.{Fine, Fault}
 use Rattle.bodies.specs.Bodies.{firstTests, bodyOf}
 use Rattle.bodies.specs.declared.Found.{Found}
 use Rattle.leader.specs.Leader.{countsOf, lengthsOf}
+use Rattle.image.specs.Image.{sortIn}
 
 -- the plan that the first record of a file of that kind names
 unfoldable pub planOf : ℕ → List ℕ → Plan
 planOf kind r =
     pick (eqb kind volume)
-    (record { pointers = numberAt r 161 I4; counts = replicate rows 0; lengths = replicate rows 0; n = 0; l = 0; w = 0; d = 0; s = 0 })
+    (record { pointers = numberAt r 161 I4; counts = replicate rows 0; lengths = replicate rows 0; n = 0; l = 0; w = 0; d = 0; s = 0; sort = 0 })
     (pick (eqb kind leader)
-    (record { pointers = 0; counts = countsOf r; lengths = lengthsOf r; n = 0; l = 0; w = 0; d = 0; s = 0 })
+    (record { pointers = 0; counts = countsOf r; lengths = lengthsOf r; n = 0; l = 0; w = 0; d = 0; s = 0; sort = 0 })
     (pick (eqb kind image)
     (record {
       pointers = 0;
@@ -34,6 +35,7 @@ planOf kind r =
       w = numberAt r 249 I8;
       d = numberAt r 281 I8;
       s = numberAt r 289 I4;
+      sort = sortIn r;
     })
     zeroPlan))
 

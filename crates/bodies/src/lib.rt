@@ -53,6 +53,7 @@ pub fn of_image(r: &[u8]) -> Found
     plan.w = x.w;
     plan.d = x.d;
     plan.s = x.s;
+    plan.sort = x.sort;
     Found { verdict, plan }
 }
 

@@ -5,7 +5,6 @@ use copies::Copied;
 use lines::View;
 ghost use mathlib.Core.Path.{_≡_};
 ghost use lib.ListN.{length};
-ghost use Rattle.plan.specs.Plan.{group};
 ghost use Rattle.lines.specs.View.{viewOf};
 ghost use Rattle.copies.specs.Row.{copiedOf};
 ghost use Rattle.lines.specs.Said.{viewAs};
@@ -35,7 +34,7 @@ fn view_reply(x: View) -> Reply
 }
 
 // What a row copy answers.
-fn copy_reply(x: Copied) -> Reply
+pub fn copy_reply(x: Copied) -> Reply
     ensures { λ t. ⌜ t ≡ replyOf (copiedAs x) 0 ⌝ }
 {
     match x {
@@ -49,7 +48,7 @@ fn copy_reply(x: Copied) -> Reply
 #[no_mangle]
 pub extern "C" fn sbg_line(bytes: &[u8], line: u64, answer: &mut [u64]) -> u64
     ensures { λ r. ⌜ r ≡ answered (fits 5 (now (answer .entry))) ⌝ }
-    ensures { λ _. ⌜ now (answer .exit) ≡ answerOf (viewAs (viewOf group (now (bytes .entry)) line)) (now (answer .entry)) ⌝ }
+    ensures { λ _. ⌜ now (answer .exit) ≡ answerOf (viewAs (viewOf (now (bytes .entry)) line)) (now (answer .entry)) ⌝ }
 {
     if answer.len() < ANSWER {
         return 0;

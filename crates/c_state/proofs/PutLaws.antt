@@ -46,7 +46,7 @@ length-at st j h =
     simp (le-ltb (4 + 2 * j) 3 a, lt-ltb (4 + 2 * j) 37 b, i, odd, half)
 
 -- the three numbers before the pairs
-module _ (st : State) (old : List ℕ) (long : 42 ≤ length old) where
+module _ (st : State) (old : List ℕ) (long : 43 ≤ length old) where
   abbrev pub three : List ℕ
   three = set (set (set old 0 (st .kind)) 1 (st .passed)) 2 (st .plan .pointers)
 
@@ -74,22 +74,25 @@ module _ (st : State) (old : List ℕ) (long : 42 ≤ length old) where
       (omega (arith, three-long)) (omega arith) (length-at st j h)
       (put-more st (3 + 2 * j) (4 + 2 * j) (getD (st .plan .counts) j 0) three now (omega (arith, three-long)) (omega arith) (count-at st j h) p)
 
-  -- the five behind them
-  pub five-put : (now : List ℕ) → Put st 37 three now
-      → set (set (set (set (set now 37 (st .plan .n)) 38 (st .plan .l)) 39 (st .plan .w)) 40 (st .plan .d)) 41 (st .plan .s) ≡ numbersOf st ++ drop 42 old
+  -- the six behind them
+  pub six-put : (now : List ℕ) → Put st 37 three now
+      → set (set (set (set (set (set now 37 (st .plan .n)) 38 (st .plan .l)) 39 (st .plan .w)) 40 (st .plan .d)) 41 (st .plan .s)) 42 (st .plan .sort) ≡
+      numbersOf st ++ drop 43 old
   unfolding stateNumber numbersOf
-  five-put now p =
+  six-put now p =
       let a = set now 37 (st .plan .n) in
       let b = set a 38 (st .plan .l) in
       let c = set b 39 (st .plan .w) in
       let d = set c 40 (st .plan .d) in
+      let e = set d 41 (st .plan .s) in
       let l = three-long in
-      put-more st 41 42 (st .plan .s) three d (omega arith) refl refl
+      put-more st 42 43 (st .plan .sort) three e (omega arith) refl refl
+      (put-more st 41 42 (st .plan .s) three d (omega arith) refl refl
       (put-more st 40 41 (st .plan .d) three c (omega arith) refl refl
       (put-more st 39 40 (st .plan .w) three b (omega arith) refl refl
       (put-more st 38 39 (st .plan .l) three a (omega arith) refl refl
-      (put-more st 37 38 (st .plan .n) three now (omega arith) refl refl p))))
-      ∙ ap (λ (l : List ℕ). listFrom (stateNumber st) 0 42 ++ l) (three-behind 42 (omega arith))
+      (put-more st 37 38 (st .plan .n) three now (omega arith) refl refl p)))))
+      ∙ ap (λ (l : List ℕ). listFrom (stateNumber st) 0 43 ++ l) (three-behind 43 (omega arith))
 
   -- there is room for each number, since a store leaves the array as long as it was
   pub room-1 : 1 < length (set old 0 (st .kind))
@@ -99,7 +102,7 @@ module _ (st : State) (old : List ℕ) (long : 42 ≤ length old) where
   room-2 = simp length-set (omega arith)
 
   module _ (now : List ℕ) (same : length now ≡ length three) where
-    pub room : (n : ℕ) → n < 42 → n < length now
+    pub room : (n : ℕ) → n < 43 → n < length now
     room n h = omega (arith, three-long)
 
     pub pair-long : (j : ℕ) → length (set (set now (3 + 2 * j) (getD (st .plan .counts) j 0)) (4 + 2 * j) (getD (st .plan .lengths) j 0)) ≡ length three
@@ -120,5 +123,10 @@ module _ (st : State) (old : List ℕ) (long : 42 ≤ length old) where
     pub room-41 : 41 < length (set (set (set (set now 37 (st .plan .n)) 38 (st .plan .l)) 39 (st .plan .w)) 40 (st .plan .d))
     room-41 = simp length-set (room 41 (omega arith))
 
-    pub five-long : length (set (set (set (set (set now 37 (st .plan .n)) 38 (st .plan .l)) 39 (st .plan .w)) 40 (st .plan .d)) 41 (st .plan .s)) ≡ length old
-    five-long = simp length-set (same ∙ three-long)
+    pub room-42 : 42 < length (set (set (set (set (set now 37 (st .plan .n)) 38 (st .plan .l)) 39 (st .plan .w)) 40 (st .plan .d)) 41 (st .plan .s))
+    room-42 = simp length-set (room 42 (omega arith))
+
+    pub six-long : length (set (set (set (set (set (set now 37 (st .plan .n)) 38 (st .plan .l)) 39 (st .plan .w)) 40 (st .plan .d)) 41 (st .plan .s)) 42
+        (st .plan .sort))
+        ≡ length old
+    six-long = simp length-set (same ∙ three-long)

@@ -1,2 +1,2 @@
--- The specs of `c_state`: a state as 42 numbers.
+-- The specs of `c_state`: a state as 43 numbers.
 pub mod Numbers

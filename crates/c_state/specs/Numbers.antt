@@ -1,4 +1,4 @@
--- A state's numbers as they cross the C boundary, in the order of include/seobangyu.h: a state's 42. Assumes nothing.
+-- A state's numbers as they cross the C boundary, in the order of include/seobangyu.h: a state's 43. Assumes nothing.
 use Rattle.plan.specs.Tables.{rows}
 use Prim.Native.Nat.{ℕ, zero, suc, _+_, _-_, _*_, _/_, _%_}
 use mathlib.Core.List.{List, [], _∷_}
@@ -13,7 +13,7 @@ unfoldable pub listFrom : (ℕ → ℕ) → ℕ → ℕ → List ℕ
 listFrom g i zero = []
 listFrom g i (suc n) = g i ∷ listFrom g (suc i) n
 
--- ---- a state: kind, passed, pointers; count and length of slots 1, 2, 3, 4, 5, 7 and of the eleven facility pairs, in turn; n, L, w, d, s
+-- ---- a state: kind, passed, pointers; count and length of slots 1, 2, 3, 4, 5, 7 and of the eleven facility pairs, in turn; n, L, w, d, s, sort
 
 -- number j of the pairs
 unfoldable pub pairNumber : Plan → ℕ → ℕ
@@ -24,10 +24,10 @@ unfoldable pub stateNumber : State → ℕ → ℕ
 stateNumber st i =
     pick (ltb i 3) (getD (st .kind ∷ st .passed ∷ st .plan .pointers ∷ []) i 0)
     (pick (ltb i 37) (pairNumber (st .plan) (i - 3))
-    (getD (st .plan .n ∷ st .plan .l ∷ st .plan .w ∷ st .plan .d ∷ st .plan .s ∷ []) (i - 37) 0))
+    (getD (st .plan .n ∷ st .plan .l ∷ st .plan .w ∷ st .plan .d ∷ st .plan .s ∷ st .plan .sort ∷ []) (i - 37) 0))
 
 unfoldable pub numbersOf : State → List ℕ
-numbersOf st = listFrom (stateNumber st) 0 42
+numbersOf st = listFrom (stateNumber st) 0 43
 
 -- every second number from number i on, one a row of the plan
 unfoldable pub everySecond : ℕ → List ℕ → List ℕ
@@ -45,6 +45,7 @@ planIn l =
       w = getD l 39 0;
       d = getD l 40 0;
       s = getD l 41 0;
+      sort = getD l 42 0;
     }
 
 unfoldable pub stateIn : List ℕ → State

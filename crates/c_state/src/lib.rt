@@ -1,5 +1,5 @@
-// A walk's state as C holds it (include/seobangyu.h): 42 numbers, which any caller may keep and hand in
-// again. Any 42 numbers are a state; whether it is a good one is the walk's to say.
+// A walk's state as C holds it (include/seobangyu.h): 43 numbers, which any caller may keep and hand in
+// again. Any 43 numbers are a state; whether it is a good one is the walk's to say.
 use plan::Plan;
 use walk::State;
 ghost use mathlib.Core.Path.{_≡_};
@@ -9,12 +9,12 @@ ghost use lib.ListN.{length, drop};
 ghost use Rattle.c_state.specs.Numbers.{numbersOf, everySecond, stateIn};
 
 // How many numbers a state has.
-pub const NUMBERS: usize = 42;
+pub const NUMBERS: usize = 43;
 
 // A state's numbers to the start of the state array, each by a store of its own; later numbers stay.
 pub fn put(st: State, state: &mut [u64])
-    requires { ⌜ 42 ≤ length (now state) ⌝ }
-    ensures { λ _. ⌜ now (state .exit) ≡ numbersOf st ++ drop 42 (now (state .entry)) ⌝ }
+    requires { ⌜ 43 ≤ length (now state) ⌝ }
+    ensures { λ _. ⌜ now (state .exit) ≡ numbersOf st ++ drop 43 (now (state .entry)) ⌝ }
 {
     let c = st.plan.counts;
     let l = st.plan.lengths;
@@ -32,11 +32,12 @@ pub fn put(st: State, state: &mut [u64])
     state[39] = st.plan.w;
     state[40] = st.plan.d;
     state[41] = st.plan.s;
+    state[42] = st.plan.sort;
 }
 
 // Every second number from number i on: the counts, or the lengths.
 fn every_second(i: usize, state: &[u64]) -> [u64; plan::ROWS]
-    requires { ⌜ (i ≤ 4) × (42 ≤ length (now state)) ⌝ }
+    requires { ⌜ (i ≤ 4) × (43 ≤ length (now state)) ⌝ }
     ensures { λ r. ⌜ r ≡ everySecond i (now (state .entry)) ⌝ }
 {
     let mut a = [0u64; plan::ROWS];
@@ -50,7 +51,7 @@ fn every_second(i: usize, state: &[u64]) -> [u64; plan::ROWS]
 
 // The state that the numbers are.
 pub fn get(state: &[u64]) -> State
-    requires { ⌜ 42 ≤ length (now state) ⌝ }
+    requires { ⌜ 43 ≤ length (now state) ⌝ }
     ensures { λ r. ⌜ r ≡ stateIn (now (state .entry)) ⌝ }
 {
     let counts = every_second(3, state);
@@ -64,6 +65,7 @@ pub fn get(state: &[u64]) -> State
         w: state[39],
         d: state[40],
         s: state[41],
+        sort: state[42],
     };
     State {
         kind: state[0],

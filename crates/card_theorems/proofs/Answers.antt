@@ -150,12 +150,12 @@ module _ (bs ls : List ℕ) (a : Accepted image bs) (b : Accepted leader ls) whe
 
 -- left fill and data count of a line are what the line view shows
 pub scene-shown : (bs : List ℕ) (a : Accepted image bs) (k : ℕ) → 1 ≤ k → k ≤ imagePlan bs .n
-    → viewOf 2 bs k ≡ view.Shown (dataStart 2 (imagePlan bs) k (lineRecord (imagePlan bs) k bs)) (dataCount (lineRecord (imagePlan bs) k bs))
+    → viewOf bs k ≡ view.Shown (dataStart (imagePlan bs) k (lineRecord (imagePlan bs) k bs)) (dataCount (lineRecord (imagePlan bs) k bs))
     (leftFill (lineRecord (imagePlan bs) k bs))
 scene-shown bs a k h l =
     let f = file image bs a in
     let e : imagePlan bs ≡ f .accepted .0 .plan = f .plan ∙ sym (f .accepted .1) in
-    stands-shown 2 bs k (imagePlan bs)
+    stands-shown bs k (imagePlan bs)
     (subst (Stands bs k) (sym e) (accepted-lines bs (f .accepted .0) k h (subst (λ (x : Plan). k ≤ x .n) e l)))
 
 -- ---- on a refusal every byte stays, whatever the files are

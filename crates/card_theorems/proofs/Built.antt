@@ -15,7 +15,7 @@ use Rattle.writing.specs.Writing.{fourOf}
 use Rattle.plan.specs.Plan as plan
 use Rattle.plan.specs.Plan.{totalOf, dueOf, planGood, spotOf, imageRanges}
 use Rattle.plan.specs.declared.Plan.{Plan}
-use Rattle.plan.proofs.GoodLaws.{image-within, image-agrees, image-bounds}
+use Rattle.plan.proofs.GoodLaws.{image-within, image-agrees, image-room, image-bounds}
 use Rattle.entry.specs.Entry.{concat}
 use Rattle.card_theorems.specs.Card.{Fill, Span, Numbers, First, Line, Leader, Lines, Leaders, Card}
 use Rattle.card_build.specs.Build.{firstBytes, lineBytes, leaderBytes, linesBytes, leadersBytes, cardBytes}
@@ -23,6 +23,7 @@ use Rattle.promises.specs.Rules.{image, leader, Line as RuleLine}
 use Rattle.promises.specs.Newest.{Accepted}
 use Rattle.promises.specs.Shown.{lineStart, lineRecord, leftFill, dataCount, Stands}
 use Rattle.promises.proofs.AcceptedLines.{accepted-lines}
+use Rattle.promises.proofs.Sorts.{group-same, ahead-same}
 use Rattle.promises.proofs.Starts.{end-to-end}
 use Rattle.card_theorems.specs.Scene.{fillsOf, spansOf, sceneOf}
 use Rattle.card_theorems.proofs.Bounds.{few-records, ends-early}
@@ -57,8 +58,10 @@ first-written p g =
       l-range = l;
       w-range = w;
       d-range = d;
-      paired = o .0;
-      room = omega (arith, o .1);
+      sort = p .sort;
+      known = b .5;
+      paired = o .0 ∙ ap (λ (i : ℕ). i * p .w) (group-same (p .sort));
+      room = omega (arith, o .1, ahead-same (p .sort));
     }
 
 -- ---- lines
@@ -158,7 +161,6 @@ pub built-card : (bs : List ℕ) (p q : Plan) → planGood plan.image p ≡ true
 unfolding cardBytes spotOf
 built-card bs p q g stands h cs ls =
     let b = image-bounds p (image-within p g) in
-    let o = image-agrees p g in
     let n = totalOf plan.leader q in
     record {
       first = firstBytes p;
@@ -166,7 +168,7 @@ built-card bs p q g stands h cs ls =
       leaders = leaderEntries n 0 q;
       are = ap₂ (λ (x y : List ℕ). firstBytes p ++ (x ++ y)) (lines-end (p .n) 0 720 (p .l) bs) (leaders-end n 0 q);
       begins = first-written p g;
-      each = lines-written bs p stands (b .3) (b .0) (omega (arith, o .1)) (p .n) 0 720 (omega arith) (omega (arith, zero-mul (p .l)));
+      each = lines-written bs p stands (b .3) (b .0) (omega (arith, image-room p g)) (p .n) 0 720 (omega arith) (omega (arith, zero-mul (p .l)));
       every = many (p .n) 0;
       follow = leaders-written q (few-records q h cs ls) (ends-early q h cs ls) n 0 0 (omega arith) refl;
     }

@@ -13,11 +13,14 @@ use borrow.Author.Tests.{eq-eqb, ne-eqb, eqb-true, eqb-false, lt-ltb, le-ltb, lt
 use Rattle.words.specs.Tests.{pick, bothOf, withinOf}
 use Rattle.words.specs.Words.{byteAt, fourAt}
 use Rattle.words.proofs.Laws.{four-bytes, both-l, both-r, both-make, cases, within-true, true-within}
-use Rattle.plan.specs.Plan.{planGood, imageGood, imageRanges, imageAgrees, slotsZero?, allZero}
+use Rattle.plan.specs.Tables.{lastSort, sortOf as sortOf′}
+use Rattle.plan.specs.Plan.{groupOf, aheadOf, planGood, imageGood, imageRanges, imageAgrees, slotsZero?, allZero}
 use Rattle.plan.specs.declared.Plan.{Plan}
 use Rattle.entry.specs.Entry.{Entry, kindOf, wholeOf}
 use Rattle.card_theorems.specs.Card.{Fill, Span, First, Line, Leader, Kind, Wrong, unknown, cut, order, Missing, IsFirst, IsLine, IsLeader}
-use Rattle.cards.specs.Check.{bodyOf, faultOf, planFrom, firstHolds, lineHolds, leaderHolds}
+use Rattle.promises.specs.Rules.{sortOf}
+use Rattle.promises.proofs.Sorts.{group-same, ahead-same}
+use Rattle.cards.specs.Check.{bodyOf, faultOf, sortBy, planFrom, firstHolds, lineHolds, leaderHolds}
 use Rattle.cards.proofs.EntryLaws.{fault-none, fault-unknown, fault-cut, fault-by, passes}
 
 -- ---- numbers of an entry, whatever follows it
@@ -223,6 +226,7 @@ first-ranges r s q h =
     let b = both-r (withinOf 1 (p .n) 999999) _ ranges in
     let c = both-r (withinOf 1 (p .l) 999999) _ b in
     let d = both-r (withinOf 1 (p .w) 99999999) _ c in
+    let e = both-r (withinOf 1 (p .d) 99999999) _ d in
     record {
       is = record { size = s; kind = q };
       says-n = refl;
@@ -233,21 +237,35 @@ first-ranges r s q h =
       l-range = within-true 1 (p .l) 999999 (both-l _ _ b);
       w-range = within-true 1 (p .w) 99999999 (both-l _ _ c);
       d-range = within-true 1 (p .d) 99999999 (both-l _ _ d);
-      paired = eqb-true (p .d) (2 * p .w) (both-l _ _ agrees);
-      room = omega (arith, leb-true (192 + p .d + 0) (p .l) (both-r (eqb (p .d) (2 * p .w)) _ agrees));
+      sort = p .sort;
+      known = within-true 0 (p .sort) lastSort (both-r (withinOf 0 (p .s) 9999) _ e) .1;
+      paired = eqb-true (p .d) (groupOf p * p .w) (both-l _ _ agrees) ∙ ap (λ (i : ℕ). i * p .w) (group-same (p .sort));
+      room = omega (arith, leb-true (aheadOf p + p .d + 0) (p .l) (both-r (eqb (p .d) (groupOf p * p .w)) _ agrees), ahead-same (p .sort));
     }
+
+-- the sort is found by d, since there are pixels
+sort-found : (i w d : ℕ) → i ≤ 1 → 1 ≤ w → d ≡ sortOf i .group * w → sortBy w d ≡ i
+unfolding sortOf′
+sort-found zero w d h some e = ap (λ (b : Bool). pick b 1 0) (ne-eqb d (8 * w) (λ q. omega arith))
+sort-found (suc zero) w d h some e = ap (λ (b : Bool). pick b 1 0) (eq-eqb d (8 * w) e)
+sort-found (suc (suc i)) w d h some e = absurd (omega arith)
 
 ranges-first : (r : List ℕ) (n l w d : ℕ) → First r n l w d → firstHolds r ≡ true
 unfolding firstHolds planGood imageGood allZero
 ranges-first r n l w d f =
     let p : Plan = planFrom r in
+    let s : p .sort ≡ f .sort = ap₂ sortBy (f .says-w) (f .says-d) ∙ sort-found (f .sort) w d (f .known) (f .w-range .0) (f .paired) in
+    let g : groupOf p ≡ sortOf (f .sort) .group = ap (λ (i : ℕ). sortOf′ i .group) s ∙ group-same (f .sort) in
+    let a : aheadOf p ≡ sortOf (f .sort) .ahead = ap (λ (i : ℕ). sortOf′ i .ahead) s ∙ ahead-same (f .sort) in
+    let k = f .known in
     both-make (imageRanges p) (imageAgrees p)
     (both-make _ _ (true-within 1 (p .n) 999999 (omega (arith, f .says-n, f .n-range)) (omega (arith, f .says-n, f .n-range)))
     (both-make _ _ (true-within 1 (p .l) 999999 (omega (arith, f .says-l, f .l-range)) (omega (arith, f .says-l, f .l-range)))
     (both-make _ _ (true-within 1 (p .w) 99999999 (omega (arith, f .says-w, f .w-range)) (omega (arith, f .says-w, f .w-range)))
-    (both-make _ _ (true-within 1 (p .d) 99999999 (omega (arith, f .says-d, f .d-range)) (omega (arith, f .says-d, f .d-range))) refl))))
-    (both-make _ _ (eq-eqb (p .d) (2 * p .w) (omega (arith, f .says-d, f .says-w, f .paired)))
-    (le-leb (192 + p .d + 0) (p .l) (omega (arith, f .says-d, f .says-l, f .room))))
+    (both-make _ _ (true-within 1 (p .d) 99999999 (omega (arith, f .says-d, f .d-range)) (omega (arith, f .says-d, f .d-range)))
+    (both-make _ _ refl (true-within 0 (p .sort) lastSort (omega arith) (omega (arith, s, k))))))))
+    (both-make _ _ (eq-eqb (p .d) (groupOf p * p .w) (f .says-d ∙ f .paired ∙ ap₂ (λ (i x : ℕ). i * x) (sym g) (sym (f .says-w))))
+    (le-leb (aheadOf p + p .d + 0) (p .l) (omega (arith, f .says-d, f .says-l, f .room, a))))
 
 pub judges-first : Judges 1 16 IsFirst firstHolds
 unfolding firstHolds

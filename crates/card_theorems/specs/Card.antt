@@ -8,6 +8,8 @@ use lib.ListN.{length, take}
 use Rattle.words.specs.Words.{byteAt, fourAt}
 use Rattle.words.specs.Answer.{refusalAt}
 use Rattle.words.specs.declared.Refusal.{Refusal}
+use Rattle.promises.specs.Edition.{newest}
+use Rattle.promises.specs.Rules.{sortOf}
 use Rattle.entry.specs.Entry.{Entry, concat}
 
 -- ---- the numbers of a card
@@ -47,7 +49,7 @@ listed x = x .n ∷ x .l ∷ x .w ∷ x .d ∷ (fillList (x .lines) ++ spanList 
 
 -- ---- the entries
 
--- kind 1 (16 bytes): n, L, w, d, four bytes each, within document 01's ranges and agreements, with s as 0
+-- kind 1 (16 bytes): n, L, w, d, four bytes each, within document 01's ranges and the agreements of one of the sorts (document 02, No. 2), with s as 0
 pub record First (r : List ℕ) (n l w d : ℕ) : Type 0 where
   pub is : Entry 1 16 r
   pub says-n : fourAt r 1 ≡ n
@@ -58,8 +60,10 @@ pub record First (r : List ℕ) (n l w d : ℕ) : Type 0 where
   pub l-range : (1 ≤ l) × (l ≤ 999999)
   pub w-range : (1 ≤ w) × (w ≤ 99999999)
   pub d-range : (1 ≤ d) × (d ≤ 99999999)
-  pub paired : d ≡ 2 * w
-  pub room : 192 + d ≤ l
+  pub sort : ℕ
+  pub known : sort ≤ newest .sorts
+  pub paired : d ≡ sortOf sort .group * w
+  pub room : sortOf sort .ahead + d ≤ l
 
 -- kind 2 (12 bytes): line number, left fill, data count; left plus data, an ordinary sum, is at most w
 pub record Line (w k : ℕ) (r : List ℕ) (f : Fill) : Type 0 where

@@ -10,7 +10,7 @@ use Rattle.words.specs.Tests.{pick, bothOf}
 use Rattle.words.specs.Words.{byteAt, fourAt}
 use Rattle.words.specs.Answer.{refusalAt, bareRefusal}
 use Rattle.writing.specs.Writing.{written}
-use Rattle.plan.specs.Tables.{rows}
+use Rattle.plan.specs.Tables.{rows, sortOf}
 use Rattle.plan.specs.Plan.{image, planGood}
 use Rattle.plan.specs.declared.Plan.{Plan}
 use Rattle.entry.specs.Entry.{kindOf, wholeOf}
@@ -39,6 +39,10 @@ judged (suc m) at on = refusedWith (suc m) at
 
 -- ---- the tests of the bodies
 
+-- the sort of an image of w pixels in d bytes: complex where d is 8w (document 02, No. 2), else counts
+abbrev pub sortBy : ℕ → ℕ → ℕ
+sortBy w d = pick (eqb d (sortOf 1 .group * w)) 1 0
+
 -- kind 1: an image's first record can name these numbers, with s as 0
 abbrev pub planFrom : List ℕ → Plan
 planFrom r =
@@ -51,6 +55,7 @@ planFrom r =
       w = fourAt r 9;
       d = fourAt r 13;
       s = 0;
+      sort = sortBy (fourAt r 9) (fourAt r 13);
     }
 
 unfoldable pub firstHolds : List ℕ → Bool

@@ -9,7 +9,7 @@ ghost use lib.ListN.{length, drop};
 ghost use Rattle.words.specs.Tests.{bothOf};
 ghost use Rattle.words.specs.Words.{fourAt};
 ghost use Rattle.writing.specs.Writing.{written};
-ghost use Rattle.cards.specs.Check.{bodyOf, faultOf, refusedWith, firstHolds, lineHolds, leaderHolds};
+ghost use Rattle.cards.specs.Check.{bodyOf, faultOf, refusedWith, sortBy, firstHolds, lineHolds, leaderHolds};
 ghost use Rattle.cards.specs.Check.{linesOf, leadersOf, checkOf, Few, pairsFrom, numbersOf, listOf};
 
 // A card, with so many lines and leader entries; or what is first wrong.
@@ -60,6 +60,17 @@ fn refused(number: u64, at: usize) -> Checked
     Checked::Refused(words::at_place(number, at as u64))
 }
 
+// The sort of an image of w pixels in d bytes: complex where d is 8w (document 02, No. 2), else counts.
+fn sort_by(w: u64, d: u64) -> u64
+    requires { ⌜ w < 2 ^ 32 ⌝ }
+    ensures { λ r. ⌜ r ≡ sortBy w d ⌝ }
+{
+    if d == plan::sort_at(plan::COMPLEX).group * w {
+        return plan::COMPLEX;
+    }
+    plan::COUNTS
+}
+
 // Kind 1: n, L, w and d are such as an image's first record names, with s as 0.
 fn first_holds(b: &[u8]) -> bool
     ensures { λ r. ⌜ r ≡ firstHolds (now (b .entry)) ⌝ }
@@ -69,6 +80,7 @@ fn first_holds(b: &[u8]) -> bool
     p.l = words::four(b, 5);
     p.w = words::four(b, 9);
     p.d = words::four(b, 13);
+    p.sort = sort_by(p.w, p.d);
     allowed::good(plan::IMAGE, p)
 }
 

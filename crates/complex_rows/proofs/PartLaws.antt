@@ -64,6 +64,9 @@ parts-fours bs at (suc n) =
     ∙ ap (λ (i : ℕ). fourAt bs at ∷ fourAt bs (at + 4) ∷ fours bs i (2 * n)) (let e : at + 4 + 4 ≡ at + 8 = omega arith in e)
     ∙ ap (λ (l : List ℕ). fourAt bs at ∷ fourAt bs (at + 4) ∷ l) (parts-fours bs (at + 8) n)
 
+pub length-parts : (bs : List ℕ) (at n : ℕ) → length (parts bs at n) ≡ 2 * n
+length-parts bs at n = ap length (sym (parts-fours bs at n)) ∙ length-fours bs at (2 * n)
+
 -- the row's numbers 2i and 2i + 1 are the patterns that the sample reader gives of sample i
 pub part-real : (bs : List ℕ) (at n i : ℕ) → i < n → getD (parts bs at n) (2 * i) 0 ≡ patternAt bs (placeIn at 1 i) .re
 unfolding parts
@@ -95,6 +98,10 @@ pub row-stays : (bs more row : List ℕ) (start count left sort : ℕ) → start
     → partsRowBy (Shown start count left) sort (bs ++ more) row ≡ partsRowBy (Shown start count left) sort bs row
 row-stays bs more row start count left sort h =
     ap (λ (l : List ℕ). pick (isComplex sort) (pick (ltb (length row) (2 * count)) row (l ++ drop (2 * count) row)) row) (parts-stay bs more start count h)
+
+-- counts leave the row as it was, whatever the bytes
+pub row-counts : (bs row : List ℕ) (start count left sort : ℕ) → isComplex sort ≡ false → partsRowBy (Shown start count left) sort bs row ≡ row
+row-counts bs row start count left sort k = simp k
 
 -- ---- the copy by what the view shows
 

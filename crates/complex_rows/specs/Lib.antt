@@ -1,3 +1,2 @@
--- The specs of `complex_rows`: what the complex row copy writes, and the row copy of counts by the sort.
+-- The specs of `complex_rows`: what the complex row copy writes.
 pub mod Parts
-pub mod Counts

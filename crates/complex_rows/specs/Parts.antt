@@ -8,6 +8,7 @@ use Rattle.words.specs.Tests.{pick}
 use Rattle.words.specs.Words.{fourAt}
 use Rattle.words.specs.Answer.{bareRefusal}
 use Rattle.samples.specs.Samples.{isComplex}
+use Rattle.lines.specs.View.{viewOf, sortSeen}
 use Rattle.lines.specs.declared.View.{View}
 use Rattle.lines.specs.declared.View.the-variants.{Shown, Wait, Refused}
 use Rattle.copies.specs.declared.Copied.{Copied}
@@ -36,3 +37,10 @@ partsRowBy (Shown start count left) sort bs row =
     pick (isComplex sort) (pick (ltb (length row) (2 * count)) row (parts bs start count ++ drop (2 * count) row)) row
 partsRowBy (Wait n) sort bs row = row
 partsRowBy (Refused r) sort bs row = row
+
+-- asked of line k of an image prefix held from byte 0: the answer, for a row of m numbers, and the row behind it
+unfoldable pub partsCopied : List ℕ → ℕ → ℕ → Copied
+partsCopied bs k m = partsCopiedBy (viewOf bs k) (sortSeen bs) m
+
+unfoldable pub partsRow : List ℕ → ℕ → List ℕ → List ℕ
+partsRow bs k row = partsRowBy (viewOf bs k) (sortSeen bs) bs row

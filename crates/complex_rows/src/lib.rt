@@ -7,7 +7,7 @@ ghost use mathlib.Core.List.{_++_};
 ghost use Prim.Native.Nat.{_+_, _*_, _≤_};
 ghost use lib.ListN.{length, drop};
 ghost use Rattle.words.specs.Words.{fourAt};
-ghost use Rattle.complex_rows.specs.Parts.{fours, parts, partsCopiedBy, partsRowBy};
+ghost use Rattle.complex_rows.specs.Parts.{fours, parts, partsCopiedBy, partsRowBy, partsCopied, partsRow};
 
 // Number j, from 0, of those of four bytes that start there, some of which may lie behind the bytes.
 fn four_in(bytes: &[u8], start: u64, j: u64) -> u32
@@ -85,4 +85,15 @@ pub fn complex_row_in(bytes: &[u8], v: View, sort: u64, row: &mut [u32]) -> Copi
             Copied::Refused(words::bare(23))
         }
     }
+}
+
+// The complex row copy of line k of an image prefix held from byte 0: the line's own wait or refusal, then 23
+// for counts, then 15.
+pub fn complex_row(bytes: &[u8], k: u64, row: &mut [u32]) -> Copied
+    ensures { λ r. ⌜ r ≡ partsCopied (now (bytes .entry)) k (length (now (row .entry))) ⌝ }
+    ensures { λ r. ⌜ now (row .exit) ≡ partsRow (now (bytes .entry)) k (now (row .entry)) ⌝ }
+{
+    let x = lines::sorted_view(bytes, k);
+    let v = x.view;
+    complex_row_in(bytes, v, x.sort, row)
 }

@@ -1,6 +1,6 @@
 -- `allowed-is`: the state rule's tests of a plan hold exactly where the plan is allowed, test by test; a leader's rows by one law over the row.
 use Prim.Native.Nat.{ℕ, zero, suc, _+_, _*_, _≤_, _<_}
-use mathlib.Core.Path.{_≡_, refl, sym, _∙_, subst}
+use mathlib.Core.Path.{_≡_, refl, sym, ap, _∙_, subst}
 use mathlib.Core.List.{List, [], _∷_}
 use mathlib.Core.Bool.{Bool, true}
 use mathlib.Core.Logic.{_↔_}
@@ -12,13 +12,14 @@ use lib.Seq.{getD-drop}
 use borrow.Author.Tests.{eq-eqb, eqb-true, le-leb, leb-true, ne-eqb}
 use Rattle.words.specs.Tests.{pick, bothOf, withinOf}
 use Rattle.words.proofs.Laws.{both-l, both-r, both-make, within-true, true-within}
-use Rattle.plan.specs.Tables.{rows, slot, slots, slotOf, facility}
-use Rattle.plan.specs.Plan.{allZero, slotsZero?, imageZero?, zeroPlan?, slotGood, slotsGood, volumeGood, leaderGood, imageGood, planGood}
+use Rattle.plan.specs.Tables.{rows, slot, slots, slotOf, facility, lastSort}
+use Rattle.plan.specs.Plan.{groupOf, aheadOf, allZero, slotsZero?, imageZero?, zeroPlan?, slotGood, slotsGood, volumeGood, leaderGood, imageGood, planGood}
 use Rattle.plan.specs.declared.Plan.{Plan}
 use Rattle.plan.specs.declared.Slot.{Slot}
 use Rattle.plan.proofs.Bounds.{zero-each, slot-each}
 use Rattle.bodies.proofs.Named.{slot-good, slots-good}
 use Rattle.promises.specs.Rules.{Kind, volume, leader, image, trailer, kindNumber}
+use Rattle.promises.proofs.Sorts.{group-same, ahead-same}
 use Rattle.first_records.specs.Allowed.{Within, Row, RowOf, NoRows, NoLines, AllowedVolume, AllowedLeader, AllowedImage, Zeros, Allowed}
 
 -- both tests, and both facts
@@ -55,9 +56,10 @@ module _ (p : Plan) where
 
   lines-is : (imageZero? p ≡ true) ↔ NoLines p
   lines-is =
-      let b = both-is (equal-is (p .n) 0) (both-is (equal-is (p .l) 0) (both-is (equal-is (p .w) 0) (both-is (equal-is (p .d) 0) (equal-is (p .s) 0)))) in (
-        λ e. let h = b .0 e in record { n = h .0; l = h .1 .0; w = h .1 .1 .0; d = h .1 .1 .1 .0; s = h .1 .1 .1 .1 },
-        λ h. b .1 (h .n, (h .l, (h .w, (h .d, h .s)))),
+      let b = both-is (equal-is (p .n) 0) (both-is (equal-is (p .l) 0) (both-is (equal-is (p .w) 0) (both-is (equal-is (p .d) 0)
+      (both-is (equal-is (p .s) 0) (equal-is (p .sort) 0))))) in (
+        λ e. let h = b .0 e in record { n = h .0; l = h .1 .0; w = h .1 .1 .0; d = h .1 .1 .1 .0; s = h .1 .1 .1 .1 .0; sort = h .1 .1 .1 .1 .1 },
+        λ h. b .1 (h .n, (h .l, (h .w, (h .d, (h .s, h .sort))))),
       )
 
 -- ---- a leader's rows
@@ -150,9 +152,9 @@ module _ (p : Plan) where
   unfolding imageGood
   image-is =
       let ranges = both-is (within-is 1 (p .n) 999999) (both-is (within-is 1 (p .l) 999999) (both-is (within-is 1 (p .w) 99999999)
-      (both-is (within-is 1 (p .d) 99999999) (within-is 0 (p .s) 9999)))) in
+      (both-is (within-is 1 (p .d) 99999999) (both-is (within-is 0 (p .s) 9999) (within-is 0 (p .sort) lastSort))))) in
       let b = both-is (both-is (equal-is (p .pointers) 0) (rows-is p))
-      (both-is ranges (both-is (equal-is (p .d) (2 * p .w)) (most-is (192 + p .d + p .s) (p .l)))) in (
+      (both-is ranges (both-is (equal-is (p .d) (groupOf p * p .w)) (most-is (aheadOf p + p .d + p .s) (p .l)))) in (
         λ e.
             let h = b .0 e in
             let g = h .1 .0 in
@@ -163,11 +165,18 @@ module _ (p : Plan) where
               L = g .1 .0;
               w = g .1 .1 .0;
               d = g .1 .1 .1 .0;
-              s = g .1 .1 .1 .1;
-              paired = h .1 .1 .0;
-              room = h .1 .1 .1;
+              s = g .1 .1 .1 .1 .0;
+              sort = g .1 .1 .1 .1 .1;
+              paired = h .1 .1 .0 ∙ ap (λ (i : ℕ). i * p .w) (group-same (p .sort));
+              room = omega (arith, h .1 .1 .1, ahead-same (p .sort));
             },
-        λ a. b .1 ((a .pointers, a .rows), ((a .n, (a .L, (a .w, (a .d, a .s)))), (a .paired, a .room))),
+        λ a. b .1 (
+          (a .pointers, a .rows),
+          (
+            (a .n, (a .L, (a .w, (a .d, (a .s, a .sort))))),
+            (a .paired ∙ ap (λ (i : ℕ). i * p .w) (sym (group-same (p .sort))), omega (arith, a .room, ahead-same (p .sort))),
+          ),
+        ),
       )
 
   pub zeros-are : (zeroPlan? p ≡ true) ↔ Zeros p

@@ -39,7 +39,7 @@ zeros-same xs e z = ext-getD 0 (replicate rows 0) xs (sym e) (λ i h. getD-repli
 module _ (p : Plan) (c : length (p .counts) ≡ rows) (l : length (p .lengths) ≡ rows) where
   -- a plan of no lines, by its other numbers
   unlined : NoLines p → (m : ℕ) (cs ls : List ℕ) → m ≡ p .pointers → cs ≡ p .counts → ls ≡ p .lengths
-      → record { pointers = m; counts = cs; lengths = ls; n = 0; l = 0; w = 0; d = 0; s = 0 } ≡ p
+      → record { pointers = m; counts = cs; lengths = ls; n = 0; l = 0; w = 0; d = 0; s = 0; sort = 0 } ≡ p
   unlined z m cs ls e f g =
       λ i.
       record {
@@ -51,12 +51,13 @@ module _ (p : Plan) (c : length (p .counts) ≡ rows) (l : length (p .lengths) �
         w = sym (z .w) i;
         d = sym (z .d) i;
         s = sym (z .s) i;
+        sort = sym (z .sort) i;
       }
 
   -- a plan of no rows
-  unrowed : NoRows p → (m n L w d s : ℕ) → m ≡ p .pointers → n ≡ p .n → L ≡ p .l → w ≡ p .w → d ≡ p .d → s ≡ p .s
-      → record { pointers = m; counts = replicate rows 0; lengths = replicate rows 0; n = n; l = L; w = w; d = d; s = s } ≡ p
-  unrowed z m n L w d s e en el ew ed es =
+  unrowed : NoRows p → (m n L w d s sort : ℕ) → m ≡ p .pointers → n ≡ p .n → L ≡ p .l → w ≡ p .w → d ≡ p .d → s ≡ p .s → sort ≡ p .sort
+      → record { pointers = m; counts = replicate rows 0; lengths = replicate rows 0; n = n; l = L; w = w; d = d; s = s; sort = sort } ≡ p
+  unrowed z m n L w d s sort e en el ew ed es eo =
       λ i.
       record {
         pointers = e i;
@@ -67,6 +68,7 @@ module _ (p : Plan) (c : length (p .counts) ≡ rows) (l : length (p .lengths) �
         w = ew i;
         d = ed i;
         s = es i;
+        sort = eo i;
       }
 
   pub zero-plan : Zeros p → zeroPlan ≡ p
@@ -87,7 +89,8 @@ module _ (p : Plan) (c : length (p .counts) ≡ rows) (l : length (p .lengths) �
       (ext-getD 0 (planOf 2 r .lengths) (p .lengths) (named-lengths 2 r ∙ sym l) (λ i h. s i (omega (arith, named-lengths 2 r)) .1))
   plan-read r image a f =
       let s = first-plan image p r f in
-      unrowed (a .rows) 0 (planOf 3 r .n) (planOf 3 r .l) (planOf 3 r .w) (planOf 3 r .d) (planOf 3 r .s) (sym (a .pointers)) (s .0) (s .1) (s .2) (s .3) (s .4)
+      unrowed (a .rows) 0 (planOf 3 r .n) (planOf 3 r .l) (planOf 3 r .w) (planOf 3 r .d) (planOf 3 r .s) (planOf 3 r .sort)
+      (sym (a .pointers)) (s .0) (s .1) (s .2) (s .3) (s .4) (s .5)
   plan-read r trailer a f = zero-plan a
 
 -- ---- both ways

@@ -4,7 +4,7 @@ use Prim.Native.Nat.{ℕ, suc, _+_, _*_, _≤_}
 use mathlib.Core.Path.{_≡_}
 use lib.ListN.{getD}
 use Rattle.plan.specs.declared.Plan.{Plan}
-use Rattle.promises.specs.Rules.{Kind, volume, leader, image, trailer}
+use Rattle.promises.specs.Rules.{Kind, volume, leader, image, trailer, sortOf}
 
 -- a number of a range
 pub record Within (least most n : ℕ) : Type 0 where
@@ -29,6 +29,7 @@ pub record NoLines (p : Plan) : Type 0 where
   pub w : p .w ≡ 0
   pub d : p .d ≡ 0
   pub s : p .s ≡ 0
+  pub sort : p .sort ≡ 0
 
 -- volume directory: 3 to 6 pointers
 pub record AllowedVolume (p : Plan) : Type 0 where
@@ -52,7 +53,7 @@ pub record AllowedLeader (p : Plan) : Type 0 where
   pub facilities : (i : ℕ) → suc i ≤ 11 → RowOf p (6 + i) 0 1 12 99999999
   pub lines : NoLines p
 
--- image: n lines of L bytes, each of w pixels in d bytes and a suffix of s
+-- image: its sort, and n lines of L bytes, each of w pixels in d bytes and a suffix of s
 pub record AllowedImage (p : Plan) : Type 0 where
   pub pointers : p .pointers ≡ 0
   pub rows : NoRows p
@@ -61,8 +62,9 @@ pub record AllowedImage (p : Plan) : Type 0 where
   pub w : Within 1 99999999 (p .w)
   pub d : Within 1 99999999 (p .d)
   pub s : Within 0 9999 (p .s)
-  pub paired : p .d ≡ 2 * p .w
-  pub room : 192 + p .d + p .s ≤ p .l
+  pub sort : Within 0 1 (p .sort)
+  pub paired : p .d ≡ sortOf (p .sort) .group * p .w
+  pub room : sortOf (p .sort) .ahead + p .d + p .s ≤ p .l
 
 -- all zeros: a trailer's plan, and that of a state that has passed nothing
 pub record Zeros (p : Plan) : Type 0 where

@@ -4,7 +4,7 @@ use mathlib.Core.List.{List, [], _∷_, _++_}
 use lib.ListN.{getD, drop, replicate}
 use Rattle.decimal.specs.Text.{bytes}
 use Rattle.plan.specs.declared.Plan.{Plan}
-use Rattle.promises.specs.Rules.{Kind, volume, leader, image, trailer, concat}
+use Rattle.promises.specs.Rules.{Kind, volume, leader, image, trailer, sortOf, concat}
 use Rattle.promises.specs.Witness.{blanks, trailerParts, firstOf}
 
 -- a number in that many columns, a digit each
@@ -41,15 +41,15 @@ leaderWritten p =
     ∷ blanks 146
     ∷ []
 
--- an image's numbers and its sort
-unfoldable pub imageWritten : Plan → List (List ℕ)
-imageWritten p =
+-- an image's numbers, and of its sort the bytes a group and the text
+unfoldable pub imageWritten : ℕ → List ℕ → Plan → List (List ℕ)
+imageWritten group text p =
     bytes "A "
     ∷ blanks 166
     ∷ columns 6 (p .n)
     ∷ columns 6 (p .l)
     ∷ blanks 32
-    ∷ columns 4 2
+    ∷ columns 4 group
     ∷ blanks 4
     ∷ columns 4 1
     ∷ columns 8 (p .n)
@@ -59,7 +59,7 @@ imageWritten p =
     ∷ columns 8 (p .d)
     ∷ columns 4 (p .s)
     ∷ blanks 136
-    ∷ bytes "IU2 "
+    ∷ text
     ∷ blanks 288
     ∷ []
 
@@ -67,5 +67,5 @@ imageWritten p =
 unfoldable pub recordOf : Kind → Plan → List ℕ
 recordOf volume p = firstOf 1 (volumeWritten p)
 recordOf leader p = firstOf 2 (leaderWritten p)
-recordOf image p = firstOf 3 (imageWritten p)
+recordOf image p = firstOf 3 (imageWritten (sortOf (p .sort) .group) (bytes (sortOf (p .sort) .text)) p)
 recordOf trailer p = firstOf 4 trailerParts

@@ -11,8 +11,7 @@ use Rattle.words.specs.Words.{placeOf, fourAt}
 use Rattle.decimal.specs.declared.Form.the-variants.{I4, I6, I8}
 use Rattle.fields.specs.declared.Field.{Field}
 use Rattle.plan.specs.Tables.{sortOf}
-use Rattle.plan.specs.Plan.{group, ahead}
-use Rattle.verdicts.specs.Tests.{Test, test, textTest, firstFault, neededOf}
+use Rattle.verdicts.specs.Tests.{Test, test, textAt, textTest, firstFault, neededOf}
 use Rattle.verdicts.specs.Numbers.{Number, number, at, numberAt, numbersTests, firstText}
 use Rattle.verdicts.specs.declared.Verdict.{Verdict}
 use Rattle.verdicts.specs.declared.Verdict.the-variants.{Fine, Fault}
@@ -20,12 +19,16 @@ use Rattle.image.specs.declared.Described.{Described}
 use Rattle.image.specs.declared.Fills.{Fills}
 use Rattle.image.specs.declared.Numbers.{Numbers}
 
--- the number fields of the descriptor, by position
-abbrev pub imageNumbers : List Number
-imageNumbers =
+-- the text at 429 decides the sort: complex where it is that sort's text, and else counts, whose text it must then be
+abbrev pub sortIn : List ℕ → ℕ
+sortIn r = pick (textAt r (placeOf 429) (sortOf 1 .text)) 1 0
+
+-- the number fields of the descriptor, by position, by the sort
+abbrev pub imageNumbers : ℕ → List Number
+imageNumbers sort =
     number 181 I6 1 999999
     ∷ number 187 I6 1 999999
-    ∷ number 225 I4 group group
+    ∷ number 225 I4 (sortOf sort .group) (sortOf sort .group)
     ∷ number 233 I4 1 1
     ∷ number 237 I8 1 99999999
     ∷ number 249 I8 1 99999999
@@ -33,31 +36,31 @@ imageNumbers =
     ∷ number 289 I4 0 9999
     ∷ []
 
-unfoldable pub imageRow : ℕ → Number
-imageRow i = getD imageNumbers i (number 0 I4 0 0)
+unfoldable pub imageRow : ℕ → ℕ → Number
+imageRow sort i = getD (imageNumbers sort) i (number 0 I4 0 0)
 
 -- both line counts equal; d is a group for each pixel; what goes before, the data and the suffix fit L
-unfoldable pub agreeTests : ℕ → ℕ → ℕ → ℕ → ℕ → ℕ → List Test
-agreeTests n l lines w d s =
+unfoldable pub agreeTests : ℕ → ℕ → ℕ → ℕ → ℕ → ℕ → ℕ → List Test
+agreeTests sort n l lines w d s =
     test (eqb n lines) 8 0
-    ∷ test (eqb d (group * w)) 8 0
-    ∷ test (leb (ahead + d + s) l) 8 0
+    ∷ test (eqb d (sortOf sort .group * w)) 8 0
+    ∷ test (leb (sortOf sort .ahead + d + s) l) 8 0
     ∷ []
 
 -- the same, of the numbers that the descriptor says
 abbrev pub agreements : List ℕ → List Test
-agreements r = agreeTests (numberAt r 181 I6) (numberAt r 187 I6) (numberAt r 237 I8) (numberAt r 249 I8) (numberAt r 281 I8) (numberAt r 289 I4)
+agreements r = agreeTests (sortIn r) (numberAt r 181 I6) (numberAt r 187 I6) (numberAt r 237 I8) (numberAt r 249 I8) (numberAt r 281 I8) (numberAt r 289 I4)
 
 -- the fixed texts: every first record's, and the sort's at 429
 abbrev pub imageTexts : List ℕ → List Test
-imageTexts r = firstText r ∷ textTest r 429 (sortOf 0 .text) ∷ []
+imageTexts r = firstText r ∷ textTest r 429 (sortOf (sortIn r) .text) ∷ []
 
 unfoldable pub imageTests : List ℕ → List Test
-imageTests r = imageTexts r ++ (numbersTests r imageNumbers ++ agreements r)
+imageTests r = imageTexts r ++ (numbersTests r (imageNumbers (sortIn r)) ++ agreements r)
 
 -- what is found in a descriptor: the plan's numbers that it names, or its first fault and zeros
 abbrev pub unnamed : Verdict → Described
-unnamed v = record { verdict = v; n = 0; l = 0; w = 0; d = 0; s = 0 }
+unnamed v = record { verdict = v; n = 0; l = 0; w = 0; d = 0; s = 0; sort = 0 }
 
 abbrev pub namedBy : Verdict → List ℕ → Described
 namedBy Fine r =
@@ -68,6 +71,7 @@ namedBy Fine r =
       w = numberAt r 249 I8;
       d = numberAt r 281 I8;
       s = numberAt r 289 I4;
+      sort = sortIn r;
     }
 namedBy (Fault m place) r = unnamed (Fault m place)
 
@@ -81,9 +85,9 @@ numberField r x = neededOf (at r (x .byte) (x .form)) (placeOf (x .byte)) (x .le
 abbrev pub rowNumber : List ℕ → Number → ℕ
 rowNumber r x = numberAt r (x .byte) (x .form)
 
-pub record Read (r : List ℕ) (x : Numbers) : Type 0 where
-  pub verdict : x .verdict ≡ firstFault (numbersTests r imageNumbers)
-  pub values : x .verdict ≡ Fine → x .values ≡ map (rowNumber r) imageNumbers
+pub record Read (sort : ℕ) (r : List ℕ) (x : Numbers) : Type 0 where
+  pub verdict : x .verdict ≡ firstFault (numbersTests r (imageNumbers sort))
+  pub values : x .verdict ≡ Fine → x .values ≡ map (rowNumber r) (imageNumbers sort)
 
 -- a line's left fill, data and right fill counts
 abbrev pub fillsOf : List ℕ → Fills

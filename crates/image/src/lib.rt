@@ -10,7 +10,7 @@ ghost use lib.ListN.{length};
 ghost use Rattle.words.specs.Words.{placeOf};
 ghost use Rattle.verdicts.specs.Tests.{firstFault, allHold, neededOf};
 ghost use Rattle.verdicts.specs.Numbers.{at};
-ghost use Rattle.image.specs.Image.{numberField, imageRow, Read, imageTexts, agreeTests, unnamed, describedOf, fillsOf, lineTests};
+ghost use Rattle.image.specs.Image.{sortIn, numberField, imageRow, Read, imageTexts, agreeTests, unnamed, describedOf, fillsOf, lineTests};
 
 // What was found in a descriptor: nothing wrong, and the plan's numbers; or its first fault, and zeros.
 pub struct Described {
@@ -20,6 +20,7 @@ pub struct Described {
     pub w: u64,
     pub d: u64,
     pub s: u64,
+    pub sort: u64,
 }
 
 // A line's left fill, data and right fill counts.
@@ -35,25 +36,38 @@ struct Numbers {
     values: [u64; 8],
 }
 
+// The sort, by the text at 429: complex, or else counts, whose text it must then be.
+fn sort_of(r: &[u8]) -> u64
+    ensures { λ x. ⌜ x ≡ sortIn (now (r .entry)) ⌝ }
+{
+    let row = plan::sort_at(plan::COMPLEX);
+    let text = row.text;
+    if verdicts::text(r, 429, &text) {
+        return plan::COMPLEX;
+    }
+    plan::COUNTS
+}
+
 // The first record's text, and the sort's at 429.
-fn texts(r: &[u8]) -> Verdict
+fn texts(r: &[u8], sort: u64) -> Verdict
+    requires { ⌜ sort ≡ sortIn (now r) ⌝ }
     ensures { λ v. ⌜ v ≡ firstFault (imageTexts (now (r .entry))) ⌝ }
 {
     let ab = verdicts::first_text(r);
     let Verdict::Fine = ab else {
         return ab;
     };
-    let sort = plan::sort_at(0);
-    let text = sort.text;
+    let row = plan::sort_at(sort);
+    let text = row.text;
     verdicts::fixed(r, 429, &text)
 }
 
 // Number field i of the descriptor, from 0, by position: its value, or the refusal.
-fn number_at(r: &[u8], i: usize) -> Field
+fn number_at(r: &[u8], sort: u64, i: usize) -> Field
     requires { ⌜ i < 8 ⌝ }
-    ensures { λ f. ⌜ f ≡ numberField (now (r .entry)) (imageRow i) ⌝ }
+    ensures { λ f. ⌜ f ≡ numberField (now (r .entry)) (imageRow sort i) ⌝ }
 {
-    let group = plan::sort_at(0).group;
+    let group = plan::sort_at(sort).group;
     match i {
         0 => verdicts::number(r, 181, Form::I6, 1, 999999),
         1 => verdicts::number(r, 187, Form::I6, 1, 999999),
@@ -67,13 +81,13 @@ fn number_at(r: &[u8], i: usize) -> Field
 }
 
 // The number fields, each read once: the first that is refused is the fault.
-fn read_numbers(r: &[u8]) -> Numbers
-    ensures { λ x. ⌜ Read (now (r .entry)) x ⌝ }
+fn read_numbers(r: &[u8], sort: u64) -> Numbers
+    ensures { λ x. ⌜ Read sort (now (r .entry)) x ⌝ }
 {
     let mut values = [0u64; 8];
     let mut i: usize = 0;
     while i < 8 {
-        let f = number_at(r, i);
+        let f = number_at(r, sort, i);
         let Field::Value(v, _) = f else {
             return Numbers {
                 verdict: verdicts::fault(f),
@@ -91,17 +105,18 @@ fn read_numbers(r: &[u8]) -> Numbers
 
 // Both line counts equal; d is a group for each pixel; what goes before, the data and the suffix
 // fit L. The numbers have passed their ranges, so no sum wraps.
-fn agree(n: u64, l: u64, lines: u64, w: u64, d: u64, s: u64) -> Verdict
+fn agree(sort: u64, n: u64, l: u64, lines: u64, w: u64, d: u64, s: u64) -> Verdict
     requires { ⌜ (w ≤ 99999999) × (d ≤ 99999999) × (s ≤ 9999) ⌝ }
-    ensures { λ v. ⌜ v ≡ firstFault (agreeTests n l lines w d s) ⌝ }
+    ensures { λ v. ⌜ v ≡ firstFault (agreeTests sort n l lines w d s) ⌝ }
 {
     if n != lines {
         return Verdict::Fault(8, 0);
     }
-    if d != plan::GROUP * w {
+    let row = plan::sort_at(sort);
+    if d != row.group * w {
         return Verdict::Fault(8, 0);
     }
-    if l < plan::AHEAD + d + s {
+    if l < row.ahead + d + s {
         return Verdict::Fault(8, 0);
     }
     Verdict::Fine
@@ -118,6 +133,7 @@ fn unnamed(verdict: Verdict) -> Described
         w: 0,
         d: 0,
         s: 0,
+        sort: 0,
     }
 }
 
@@ -126,17 +142,18 @@ fn unnamed(verdict: Verdict) -> Described
 pub fn descriptor(r: &[u8]) -> Described
     ensures { λ x. ⌜ x ≡ describedOf (now (r .entry)) ⌝ }
 {
-    let text = texts(r);
+    let sort = sort_of(r);
+    let text = texts(r, sort);
     let Verdict::Fine = text else {
         return unnamed(text);
     };
-    let x = read_numbers(r);
+    let x = read_numbers(r, sort);
     let form = x.verdict;
     let Verdict::Fine = form else {
         return unnamed(form);
     };
     let a = x.values;
-    let agreed = agree(a[0], a[1], a[4], a[5], a[6], a[7]);
+    let agreed = agree(sort, a[0], a[1], a[4], a[5], a[6], a[7]);
     let Verdict::Fine = agreed else {
         return unnamed(agreed);
     };
@@ -147,6 +164,7 @@ pub fn descriptor(r: &[u8]) -> Described
         w: a[5],
         d: a[6],
         s: a[7],
+        sort,
     }
 }
 

@@ -10,7 +10,7 @@ use lib.Dec.{ltb}
 use lib.ListN.{length, take, drop}
 use borrow.Author.Tests.{lt-ltb, le-ltb}
 use Rattle.words.specs.Tests.{pick}
-use Rattle.plan.specs.Plan.{image, group, zeroPlan, firstCodes, firstLength, codesOf, spotOf, totalOf, sumOf, runCounts}
+use Rattle.plan.specs.Plan.{image, zeroPlan, firstCodes, firstLength, codesOf, spotOf, totalOf, sumOf, runCounts}
 use Rattle.plan.specs.declared.Plan.{Plan}
 use Rattle.headers.specs.Header.{headerOf}
 use Rattle.verdicts.specs.declared.Verdict.{Verdict}
@@ -29,8 +29,9 @@ use Rattle.walk.specs.declared.State.{State}
 use Rattle.walk.specs.declared.Walked.{Walked}
 use Rattle.walk.proofs.GoodLaws.{fresh-good}
 use Rattle.walk.proofs.KeptLaws.{good-kept}
-use Rattle.lines.specs.View.{lineOf, behindFirst, firstOf, viewOf, Lined}
+use Rattle.lines.specs.View.{lineOf, behindFirst, firstOf, viewOf, sortSeen, sortedOf, Lined}
 use Rattle.lines.specs.declared.View.{View}
+use Rattle.lines.specs.declared.Sorted.{Sorted}
 use Rattle.lines.specs.declared.View.the-variants.{Wait, Refused}
 use Rattle.lines.proofs.LinedLaws.{lined}
 
@@ -51,6 +52,10 @@ turn-is : (bs : List ℕ) → turnOf (fresh image) bs false
 unfolding judgeOf shortOf spotOf firstLength codesOf totalOf sumOf runCounts
 turn-is bs = refl
 
+-- the line under a plan, with the plan's sort
+abbrev pub underPlan : Plan → ℕ → List ℕ → Sorted
+underPlan p k bs = record { sort = p .sort; view = lineOf p k bs }
+
 module _ (bs : List ℕ) where
   -- the state behind a first record that passes
   behind : State
@@ -64,9 +69,9 @@ module _ (bs : List ℕ) where
   halted x e = walk-is (Halt x) e
 
   module _ (k : ℕ) where
-    view-halted : (x : Stop) → turnOf (fresh image) bs false ≡ Halt x → viewOf group bs k ≡ behindFirst x (lineOf group zeroPlan k bs)
-    unfolding viewOf
-    view-halted x e = ap (λ (w : Walked). behindFirst (w .stop) (lineOf group (w .state .plan) k bs)) (halted x e)
+    view-halted : (x : Stop) → turnOf (fresh image) bs false ≡ Halt x → sortedOf bs k ≡ record { sort = 0; view = behindFirst x (lineOf zeroPlan k bs) }
+    unfolding viewOf sortSeen
+    view-halted x e = ap (λ (w : Walked). record { sort = w .state .plan .sort; view = behindFirst (w .stop) (lineOf (w .state .plan) k bs) }) (halted x e)
 
   -- a first record that passes: the state behind it is good, and has the plan that it names
   module _ (e : turnOf (fresh image) bs false ≡ Pass) where
@@ -89,29 +94,29 @@ module _ (bs : List ℕ) where
     unfolding nextOf behind spotOf firstLength
     plan-is = ap (λ (s : State). s .plan) state-is
 
-    pub passed-lined : Lined group (planOf image (take 720 bs))
-    passed-lined = subst (λ (p : Plan). Lined group p) plan-is (lined bs)
+    pub passed-lined : Lined (planOf image (take 720 bs))
+    passed-lined = subst (λ (p : Plan). Lined p) plan-is (lined bs)
 
-    pub passed-view : (k : ℕ) → viewOf group bs k ≡ lineOf group (planOf image (take 720 bs)) k bs
-    unfolding viewOf
+    pub passed-view : (k : ℕ) → sortedOf bs k ≡ underPlan (planOf image (take 720 bs)) k bs
+    unfolding viewOf sortSeen
     passed-view k =
-        ap (λ (x : Stop). behindFirst x (lineOf group (firstOf bs .state .plan) k bs)) stop-is
-        ∙ ap (λ (p : Plan). lineOf group p k bs) plan-is
+        ap (λ (x : Stop). record { sort = firstOf bs .state .plan .sort; view = behindFirst x (lineOf (firstOf bs .state .plan) k bs) }) stop-is
+        ∙ ap (λ (p : Plan). underPlan p k bs) plan-is
 
 -- the view by the first record's tests, one after the other
 module _ (bs : List ℕ) where
-  pub view-short : (k : ℕ) → length bs < 12 → viewOf group bs k ≡ Wait (12 - length bs)
+  pub view-short : (k : ℕ) → length bs < 12 → sortedOf bs k ≡ record { sort = 0; view = Wait (12 - length bs) }
   view-short k h = view-halted bs k (Wait′ (12 - length bs)) (turn-is bs ∙ rw (lt-ltb (length bs) 12 h))
 
   module _ (twelve : 12 ≤ length bs) where
     pub view-header : (k n at : ℕ) → headerOf 1 (firstCodes image) 720 bs ≡ Fault n at
-        → viewOf group bs k ≡ Refused (record { number = n; «record» = 1; place = at })
+        → sortedOf bs k ≡ record { sort = 0; view = Refused (record { number = n; «record» = 1; place = at }) }
     view-header k n at q =
         view-halted bs k (Refused′ (record { number = n; «record» = 1; place = 0 + at })) (turn-is bs ∙ rw (le-ltb (length bs) 12 twelve, q))
-        ∙ ap (λ (m : ℕ). Refused (record { number = n; «record» = 1; place = m })) (zero-add at)
+        ∙ ap (λ (m : ℕ). record { sort = 0; view = Refused (record { number = n; «record» = 1; place = m }) }) (zero-add at)
 
     module _ (head : headerOf 1 (firstCodes image) 720 bs ≡ Fine) where
-      pub view-cut : (k : ℕ) → length bs < 720 → viewOf group bs k ≡ Wait (720 - length bs)
+      pub view-cut : (k : ℕ) → length bs < 720 → sortedOf bs k ≡ record { sort = 0; view = Wait (720 - length bs) }
       view-cut k h = view-halted bs k (Wait′ (720 - length bs)) (turn-is bs ∙ rw (le-ltb (length bs) 12 twelve, head, lt-ltb (length bs) 720 h))
 
       module _ (whole : 720 ≤ length bs) where
@@ -119,10 +124,10 @@ module _ (bs : List ℕ) where
         body-turn v q = turn-is bs ∙ rw (le-ltb (length bs) 12 twelve, head, le-ltb (length bs) 720 whole, q)
 
         pub view-fault : (k n at : ℕ) → firstOf′ image (take 720 bs) .verdict ≡ Fault n at
-            → viewOf group bs k ≡ Refused (record { number = n; «record» = 1; place = at })
+            → sortedOf bs k ≡ record { sort = 0; view = Refused (record { number = n; «record» = 1; place = at }) }
         view-fault k n at q =
             view-halted bs k (Refused′ (record { number = n; «record» = 1; place = 0 + at })) (body-turn (Fault n at) (body-is bs ∙ q))
-            ∙ ap (λ (m : ℕ). Refused (record { number = n; «record» = 1; place = m })) (zero-add at)
+            ∙ ap (λ (m : ℕ). record { sort = 0; view = Refused (record { number = n; «record» = 1; place = m }) }) (zero-add at)
 
         module _ (fine : firstOf′ image (take 720 bs) .verdict ≡ Fine) where
           passes : turnOf (fresh image) bs false ≡ Pass
@@ -132,8 +137,8 @@ module _ (bs : List ℕ) where
           unfolding firstOf′
           named = ap (λ (v : Verdict). planBy v (planOf image (take 720 bs))) fine
 
-          pub fine-lined : Lined group (firstOf′ image (take 720 bs) .plan)
-          fine-lined = subst (λ (p : Plan). Lined group p) (sym named) (passed-lined bs passes)
+          pub fine-lined : Lined (firstOf′ image (take 720 bs) .plan)
+          fine-lined = subst (λ (p : Plan). Lined p) (sym named) (passed-lined bs passes)
 
-          pub fine-view : (k : ℕ) → viewOf group bs k ≡ lineOf group (firstOf′ image (take 720 bs) .plan) k bs
-          fine-view k = passed-view bs passes k ∙ ap (λ (p : Plan). lineOf group p k bs) (sym named)
+          pub fine-view : (k : ℕ) → sortedOf bs k ≡ underPlan (firstOf′ image (take 720 bs) .plan) k bs
+          fine-view k = passed-view bs passes k ∙ ap (λ (p : Plan). underPlan p k bs) (sym named)

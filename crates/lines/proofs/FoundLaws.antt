@@ -7,7 +7,7 @@ use native.Mathlib.Omega.{arith}
 use native.Mathlib.Nat.{mul-le-mul-right}
 use Rattle.words.specs.Tests.{bothOf}
 use Rattle.words.proofs.Laws.{both-l, both-r}
-use Rattle.plan.specs.Plan.{image, group, ahead, runCounts, runLengths, dueOf, lineCodes}
+use Rattle.plan.specs.Plan.{image, runCounts, runLengths, dueOf, lineCodes}
 use Rattle.plan.specs.declared.Plan.{Plan}
 use Rattle.plan.specs.declared.Due.{Due}
 use Rattle.plan.specs.declared.Codes.{Codes}
@@ -41,20 +41,20 @@ module _ (p : Plan) (k : ℕ) (s : Due) (r : List ℕ) (run : s .run ≡ 1) wher
 
 -- line k, from 1, is due so many lines behind the first record
 pub due-is : (p : Plan) (k : ℕ) → 1 ≤ k → k ≤ p .n
-    → dueOf image p k ≡ record { ordinal = k + 1; run = 1; codes = lineCodes 0; length = p .l; start = 720 + (k - 1) * p .l }
+    → dueOf image p k ≡ record { ordinal = k + 1; run = 1; codes = lineCodes (p .sort); length = p .l; start = 720 + (k - 1) * p .l }
 due-is p zero a b = absurd (omega arith)
 due-is p (suc k) a b =
     line-due p k (omega arith)
-    ∙ ap (λ (i : ℕ). record { ordinal = suc k + 1; run = 1; codes = lineCodes 0; length = p .l; start = 720 + i * p .l })
+    ∙ ap (λ (i : ℕ). record { ordinal = suc k + 1; run = 1; codes = lineCodes (p .sort); length = p .l; start = 720 + i * p .l })
     (let e : k ≡ suc k - 1 = omega arith in e)
 
 -- the lines before it, and the room in each
-pub lines-before : (p : Plan) (k : ℕ) → Lined group p → k ≤ p .n → (k - 1) * p .l ≤ 999998000001
+pub lines-before : (p : Plan) (k : ℕ) → Lined p → k ≤ p .n → (k - 1) * p .l ≤ 999998000001
 unfolding runCounts runLengths
 lines-before p k o h =
     let a : p .n * p .l ≤ 999998000001 = o .small .area 0 (omega arith) in
     let m : (k - 1) * p .l ≤ p .n * p .l = let i : k - 1 ≤ p .n = omega arith in mul-le-mul-right (p .l) i in
     omega arith
 
-pub line-room : (p : Plan) → Lined group p → 1 ≤ p .n → 192 ≤ p .l
+pub line-room : (p : Plan) → Lined p → 1 ≤ p .n → 192 ≤ p .l
 line-room p o h = let m = o .room h in omega arith

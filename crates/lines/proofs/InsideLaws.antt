@@ -9,7 +9,8 @@ use lib.ListN.{length}
 use borrow.Author.Tests.{eqb-true}
 use Rattle.words.specs.Words.{fourAt, placeOf}
 use Rattle.words.proofs.Laws.{within-true}
-use Rattle.plan.specs.Plan.{image, group, dueOf, lineCodes}
+use Rattle.plan.specs.Tables.{sortOf}
+use Rattle.plan.specs.Plan.{image, groupOf, dueOf, lineCodes}
 use Rattle.plan.specs.declared.Plan.{Plan}
 use Rattle.plan.proofs.CodeLaws.{line-due}
 use Rattle.plan.specs.declared.Due.{Due}
@@ -21,7 +22,7 @@ use Rattle.verdicts.specs.declared.Verdict.the-variants.{Fine, Fault}
 use Rattle.verdicts.proofs.Holding.{fine-holds}
 use Rattle.headers.specs.Header.{headerOf}
 use Rattle.verdicts.proofs.TestLaws.{not-fine}
-use Rattle.lines.specs.View.{leftOf, dataOf, pixelsFrom, foundIn, recordAt, lineOf, firstOf, viewOf}
+use Rattle.lines.specs.View.{leftOf, dataOf, pixelsFrom, foundIn, recordAt, lineOf, firstOf, viewOf, sortSeen}
 use Rattle.lines.specs.declared.View.the-variants.{Shown}
 use Rattle.lines.proofs.LinedLaws.{lined}
 use Rattle.lines.proofs.ViewLaws.{Seen, line-seen, view-line}
@@ -57,34 +58,35 @@ line-fills : (p : Plan) (k : ℕ) (r : List ℕ) → bodyOf image 1 p k r ≡ Fi
 unfolding lineTests
 line-fills p k r e = eqb-true _ _ (fine-holds (lineTests (p .w) k r) (sym (line-body p k r) ∙ e) .1 .1 .0)
 
--- of a line that is shown under a plan whose pixels, of g bytes each, fill d: its data pixels end within the bytes held
-module _ (g : ℕ) (p : Plan) (paired : p .d ≡ g * p .w) (room : p .d + p .s ≤ p .l) where
-  seen-within : (k : ℕ) (bs : List ℕ) (start count left : ℕ) → Seen g p k (dueOf image p k) bs start count left → start + g * count ≤ length bs
+-- of a line that is shown under a plan whose pixels fill d: its data pixels end within the bytes held
+module _ (p : Plan) (paired : p .d ≡ groupOf p * p .w) (room : p .d + p .s ≤ p .l) where
+  seen-within : (k : ℕ) (bs : List ℕ) (start count left : ℕ) → Seen p k (dueOf image p k) bs start count left → start + groupOf p * count ≤ length bs
   seen-within zero bs start count left q = absurd (let h = within-true 1 0 (p .n) (q .inside) in omega arith)
   seen-within (suc k) bs start count left q =
       let h = within-true 1 (suc k) (p .n) (q .inside) in
       let e = line-due p k (omega arith) in
       go (dueOf image p (suc k)) e q
     where
-      go : (s : Due) → s ≡ record { ordinal = suc k + 1; run = 1; codes = lineCodes 0; length = p .l; start = 720 + k * p .l } → Seen g p
-          (suc k) s bs start count left → start + g * count ≤ length bs
+      go : (s : Due) → s ≡ record { ordinal = suc k + 1; run = 1; codes = lineCodes (p .sort); length = p .l; start = 720 + k * p .l } → Seen p
+          (suc k) s bs start count left → start + groupOf p * count ≤ length bs
       go s e q =
           let r = recordAt s bs in
           let b : bodyOf image 1 p (suc k) r ≡ Fine = subst (λ (i : ℕ). bodyOf image i p (suc k) r ≡ Fine) (ap (λ (x : Due). x .run) e)
           (found-parts p (suc k) s r (q .fine) .1) in
           let l : s .length ≡ p .l = ap (λ (x : Due). x .length) e in
-          let c : g * count ≡ g * dataOf r = ap (λ (n : ℕ). g * n) (q .counts) in
-          omega (arith, data-fits g p (leftOf r) (dataOf r) (fourAt r (placeOf 29)) paired room (line-fills p (suc k) r b), q .whole, q .starts)
+          let c : groupOf p * count ≡ groupOf p * dataOf r = ap (λ (n : ℕ). groupOf p * n) (q .counts) in
+          omega (arith, data-fits (groupOf p) p (leftOf r) (dataOf r) (fourAt r (placeOf 29)) paired room (line-fills p (suc k) r b), q .whole, q .starts)
 
-  pub line-within : (k : ℕ) (bs : List ℕ) (start count left : ℕ) → lineOf g p k bs ≡ Shown start count left → start + g * count ≤ length bs
-  line-within k bs start count left e = seen-within k bs start count left (line-seen g p k bs start count left e)
+  pub line-within : (k : ℕ) (bs : List ℕ) (start count left : ℕ) → lineOf p k bs ≡ Shown start count left → start + groupOf p * count ≤ length bs
+  line-within k bs start count left e = seen-within k bs start count left (line-seen p k bs start count left e)
 
--- and of a line that is shown under the first record's plan, whose samples have `group` bytes
-pub shown-within : (bs : List ℕ) (k start count left : ℕ) → viewOf group bs k ≡ Shown start count left → start + group * count ≤ length bs
+-- and of a line that is shown under the first record's plan, by the bytes of its sort
+pub shown-within : (bs : List ℕ) (k start count left : ℕ) → viewOf bs k ≡ Shown start count left → start + sortOf (sortSeen bs) .group * count ≤ length bs
+unfolding sortSeen
 shown-within bs k start count left e =
     let p = firstOf bs .state .plan in
-    let a = view-line group bs k start count left e in
-    let h = within-true 1 k (p .n) (line-seen group p k bs start count left a .inside) in
+    let a = view-line bs k start count left e in
+    let h = within-true 1 k (p .n) (line-seen p k bs start count left a .inside) in
     let o = lined bs in
     let some : 1 ≤ p .n = omega arith in
-    line-within group p (o .paired some) (let m = o .room some in omega arith) k bs start count left a
+    line-within p (o .paired some) (let m = o .room some in omega arith) k bs start count left a

@@ -1,10 +1,11 @@
 -- What the definitions of codes and lengths say in each of their cases, by computing their tests.
 use Prim.Native.Nat.{ℕ, zero, suc, _+_, _-_, _*_, _≤_, _<_}
 use mathlib.Core.Path.{_≡_, refl, ap}
+use mathlib.Core.List.{[], _∷_}
 use native.Mathlib.Omega.{arith}
 use lib.ListN.{length, getD-replicate, List·getD-eq-default}
 use borrow.Author.Tests.{eq-eqb, ne-eqb, lt-ltb}
-use Rattle.plan.specs.Tables.{rows, slot, slots, facility, slotOf, codes, others, otherCodes}
+use Rattle.plan.specs.Tables.{rows, slot, slots, facility, slotOf, codes, others, otherCodes, sort, sorts, sortOf, lastSort}
 use mathlib.Core.Bool.{Bool, true, false}
 use lib.Dec.{eqb}
 use Rattle.words.specs.Tests.{pick}
@@ -20,6 +21,31 @@ slot-none i h = List·getD-eq-default slots (slot 0 0 0 0 0) h
 pub other-none : (i : ℕ) → 6 ≤ i → otherCodes i ≡ codes 0 0 0 0
 unfolding otherCodes
 other-none i h = List·getD-eq-default others (codes 0 0 0 0) h
+
+pub sort-none : (i : ℕ) → 2 ≤ i → sortOf i ≡ sort (0 ∷ 0 ∷ 0 ∷ 0 ∷ []) 0 0 0
+unfolding sortOf
+sort-none i h = List·getD-eq-default sorts (sort (0 ∷ 0 ∷ 0 ∷ 0 ∷ []) 0 0 0) h
+
+-- no sort has more than eight bytes a group, nor asks for more than 412 ahead of the pixels
+pub sort-modest : (i : ℕ) → (sortOf i .group ≤ 8) × (sortOf i .ahead ≤ 412)
+unfolding sortOf
+sort-modest zero = (omega arith, omega arith)
+sort-modest (suc zero) = (omega arith, omega arith)
+sort-modest (suc (suc i)) = (omega arith, omega arith)
+
+-- the two sorts have a line's numbers ahead of their pixels
+pub sort-ahead : (i : ℕ) → i ≤ lastSort → 192 ≤ sortOf i .ahead
+unfolding sortOf
+sort-ahead zero h = omega arith
+sort-ahead (suc zero) h = omega arith
+sort-ahead (suc (suc i)) h = absurd (omega arith)
+
+-- every sort's text has four bytes
+pub sort-text : (i : ℕ) → length (sortOf i .text) ≡ 4
+unfolding sortOf
+sort-text zero = refl
+sort-text (suc zero) = refl
+sort-text (suc (suc i)) = refl
 
 -- the facility pairs stand behind the six slots
 pub slot-facility : (i : ℕ) → 6 ≤ i → i < rows → slotOf i ≡ facility
@@ -50,7 +76,7 @@ module _ (kind : ℕ) (p : Plan) where
   codes-volume (suc i) n e =
       let d : 3 + suc i ≡ 4 + i = omega arith in rw (ne-eqb kind leader (omega arith), eq-eqb kind volume e, d)
 
-  pub codes-line : (run : ℕ) → (run ≡ 0 → ⊥) → (kind ≡ leader → ⊥) → (kind ≡ volume → ⊥) → codesOf kind p run ≡ lineCodes 0
+  pub codes-line : (run : ℕ) → (run ≡ 0 → ⊥) → (kind ≡ leader → ⊥) → (kind ≡ volume → ⊥) → codesOf kind p run ≡ lineCodes (p .sort)
   unfolding codesOf
   codes-line zero n e f = absurd (n refl)
   codes-line (suc i) n e f = rw (ne-eqb kind leader e, ne-eqb kind volume f)
@@ -82,7 +108,7 @@ line-spot p k h = simp (lt-ltb _ _ h)
 
 -- line k's record as it is due
 pub line-due : (p : Plan) (k : ℕ) → k < p .n
-    → dueOf image p (suc k) ≡ record { ordinal = suc k + 1; run = 1; codes = lineCodes 0; length = p .l; start = 720 + k * p .l }
+    → dueOf image p (suc k) ≡ record { ordinal = suc k + 1; run = 1; codes = lineCodes (p .sort); length = p .l; start = 720 + k * p .l }
 unfolding codesOf
 line-due p k h =
     ap (λ (s : Spot). record { ordinal = suc k + 1; run = s .run; codes = codesOf image p (s .run); length = s .length; start = s .start }) (line-spot p k h)

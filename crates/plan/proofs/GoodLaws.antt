@@ -11,10 +11,11 @@ use lib.Seq.{drop-cons}
 use borrow.Author.Tests.{eq-eqb, ne-eqb, eqb-true, leb-true}
 use Rattle.words.specs.Tests.{bothOf, withinOf}
 use Rattle.words.proofs.Laws.{both-false, both-l, both-r, within-true}
-use Rattle.plan.specs.Tables.{rows, slotOf}
-use Rattle.plan.specs.Plan.{volume, leader, image, trailer, group, ahead, allZero, slotsZero?, slotGood, slotsGood, volumeGood, leaderGood, imageGood}
+use Rattle.plan.specs.Tables.{rows, slotOf, lastSort}
+use Rattle.plan.specs.Plan.{volume, leader, image, trailer, groupOf, aheadOf, allZero, slotsZero?, slotGood, slotsGood, volumeGood, leaderGood, imageGood}
 use Rattle.plan.specs.Plan.{imageRanges, imageAgrees, zeroPlan?, planGood}
 use Rattle.plan.specs.declared.Plan.{Plan}
+use Rattle.plan.proofs.CodeLaws.{sort-ahead}
 
 pub zero-at : (a : List ℕ) (i : ℕ) → i < length a → allZero (drop i a) ≡ bothOf (eqb (getD a i 0) 0) (allZero (drop (i + 1) a))
 unfolding allZero
@@ -78,18 +79,21 @@ module _ (kind : ℕ) (p : Plan) where
   unfolding planGood
   good-trailer n m o = simp (ne-eqb kind volume n, ne-eqb kind leader m, ne-eqb kind image o)
 
--- what the ranges of an image's plan bound: pixels, data bytes, suffix
-pub image-bounds : (p : Plan) → imageRanges p ≡ true → (p .w ≤ 99999999) × (p .d ≤ 99999999) × (p .s ≤ 9999) × (p .n ≤ 999999) × (p .l ≤ 999999)
+-- what the ranges of an image's plan bound: pixels, data bytes, suffix, lines, their length, the sort
+pub image-bounds : (p : Plan) → imageRanges p ≡ true
+    → (p .w ≤ 99999999) × (p .d ≤ 99999999) × (p .s ≤ 9999) × (p .n ≤ 999999) × (p .l ≤ 999999) × (p .sort ≤ lastSort)
 image-bounds p e =
     let a = both-r (withinOf 1 (p .n) 999999) _ e in
     let b = both-r (withinOf 1 (p .l) 999999) _ a in
     let c = both-r (withinOf 1 (p .w) 99999999) _ b in
-    let d = both-r (withinOf 1 (p .d) 99999999) _ c in (
+    let d = both-r (withinOf 1 (p .d) 99999999) _ c in
+    let s = both-r (withinOf 0 (p .s) 9999) _ d in (
       within-true 1 (p .w) 99999999 (both-l (withinOf 1 (p .w) 99999999) _ b) .1,
       within-true 1 (p .d) 99999999 (both-l (withinOf 1 (p .d) 99999999) _ c) .1,
-      within-true 0 (p .s) 9999 d .1,
+      within-true 0 (p .s) 9999 (both-l (withinOf 0 (p .s) 9999) _ d) .1,
       within-true 1 (p .n) 999999 (both-l (withinOf 1 (p .n) 999999) _ e) .1,
       within-true 1 (p .l) 999999 (both-l (withinOf 1 (p .l) 999999) _ a) .1,
+      within-true 0 (p .sort) lastSort s .1,
     )
 
 -- an image's ranges and agreements
@@ -101,9 +105,13 @@ module _ (p : Plan) (g : planGood image p ≡ true) where
   pub image-within : imageRanges p ≡ true
   image-within = both-l (imageRanges p) (imageAgrees p) image-parts
 
-  pub image-agrees : (p .d ≡ group * p .w) × (ahead + p .d + p .s ≤ p .l)
+  pub image-agrees : (p .d ≡ groupOf p * p .w) × (aheadOf p + p .d + p .s ≤ p .l)
   image-agrees =
       let a = both-r (imageRanges p) (imageAgrees p) image-parts in (
-        eqb-true _ _ (both-l (eqb (p .d) (group * p .w)) (leb (ahead + p .d + p .s) (p .l)) a),
-        leb-true _ _ (both-r (eqb (p .d) (group * p .w)) (leb (ahead + p .d + p .s) (p .l)) a),
+        eqb-true _ _ (both-l (eqb (p .d) (groupOf p * p .w)) (leb (aheadOf p + p .d + p .s) (p .l)) a),
+        leb-true _ _ (both-r (eqb (p .d) (groupOf p * p .w)) (leb (aheadOf p + p .d + p .s) (p .l)) a),
       )
+
+  -- the pixels, the suffix and a line's numbers fit L, whatever the sort
+  pub image-room : 192 + p .d + p .s ≤ p .l
+  image-room = omega (arith, image-agrees .1, sort-ahead (p .sort) (image-bounds p image-within .5))

@@ -6,7 +6,7 @@ use mathlib.Core.Bool.{Bool, true}
 use lib.ListN.{getD, replicate}
 use lib.Dec.{ltb, leb, eqb}
 use Rattle.words.specs.Tests.{pick, bothOf, withinOf}
-use Rattle.plan.specs.Tables.{rows, codes, slotOf, otherCodes, sortOf}
+use Rattle.plan.specs.Tables.{rows, codes, slotOf, otherCodes, sortOf, lastSort}
 use Rattle.plan.specs.declared.Plan.{Plan}
 use Rattle.plan.specs.declared.Spot.{Spot}
 use Rattle.plan.specs.declared.Codes.{Codes}
@@ -25,16 +25,16 @@ image = 3
 abbrev pub trailer : ℕ
 trailer = 4
 
--- an image's sample sort: bytes a group, and the least bytes that go ahead of the pixels
-abbrev pub group : ℕ
-group = sortOf 0 .group
-
-abbrev pub ahead : ℕ
-ahead = sortOf 0 .ahead
-
 -- all zeros: the plan of a state that has passed nothing, and a trailer's
 abbrev pub zeroPlan : Plan
-zeroPlan = record { pointers = 0; counts = replicate rows 0; lengths = replicate rows 0; n = 0; l = 0; w = 0; d = 0; s = 0 }
+zeroPlan = record { pointers = 0; counts = replicate rows 0; lengths = replicate rows 0; n = 0; l = 0; w = 0; d = 0; s = 0; sort = 0 }
+
+-- an image's bytes a group, and the least bytes that go ahead of its pixels, by its sort
+abbrev pub groupOf : Plan → ℕ
+groupOf p = sortOf (p .sort) .group
+
+abbrev pub aheadOf : Plan → ℕ
+aheadOf p = sortOf (p .sort) .ahead
 
 -- how many records each run has: pointers and one text; the leader's slots and facility pairs; lines
 unfoldable pub runCounts : ℕ → Plan → List ℕ
@@ -86,7 +86,7 @@ codesOf kind p zero = firstCodes kind
 codesOf kind p (suc i) =
     pick (eqb kind leader)
     (record { one = 18; two = slotOf i .code; three = 18; four = 20; free = slotOf i .free })
-    (pick (eqb kind volume) (otherCodes (4 + i)) (lineCodes 0))
+    (pick (eqb kind volume) (otherCodes (4 + i)) (lineCodes (p .sort)))
 
 -- the record that is due behind k others: its ordinal, its run, its codes, its length and its start in the file
 abbrev pub dueOf : ℕ → Plan → ℕ → Due
@@ -110,7 +110,8 @@ abbrev pub slotsZero? : Plan → Bool
 slotsZero? p = bothOf (allZero (p .counts)) (allZero (p .lengths))
 
 abbrev pub imageZero? : Plan → Bool
-imageZero? p = bothOf (eqb (p .n) 0) (bothOf (eqb (p .l) 0) (bothOf (eqb (p .w) 0) (bothOf (eqb (p .d) 0) (eqb (p .s) 0))))
+imageZero? p =
+    bothOf (eqb (p .n) 0) (bothOf (eqb (p .l) 0) (bothOf (eqb (p .w) 0) (bothOf (eqb (p .d) 0) (bothOf (eqb (p .s) 0) (eqb (p .sort) 0)))))
 
 unfoldable pub zeroPlan? : Plan → Bool
 zeroPlan? p = bothOf (eqb (p .pointers) 0) (bothOf (slotsZero? p) (imageZero? p))
@@ -136,10 +137,11 @@ leaderGood p = bothOf (eqb (p .pointers) 0) (bothOf (slotsGood 0 rows (p .counts
 abbrev pub imageRanges : Plan → Bool
 imageRanges p =
     bothOf (withinOf 1 (p .n) 999999)
-    (bothOf (withinOf 1 (p .l) 999999) (bothOf (withinOf 1 (p .w) 99999999) (bothOf (withinOf 1 (p .d) 99999999) (withinOf 0 (p .s) 9999))))
+    (bothOf (withinOf 1 (p .l) 999999) (bothOf (withinOf 1 (p .w) 99999999)
+    (bothOf (withinOf 1 (p .d) 99999999) (bothOf (withinOf 0 (p .s) 9999) (withinOf 0 (p .sort) lastSort)))))
 
 abbrev pub imageAgrees : Plan → Bool
-imageAgrees p = bothOf (eqb (p .d) (group * p .w)) (leb (ahead + p .d + p .s) (p .l))
+imageAgrees p = bothOf (eqb (p .d) (groupOf p * p .w)) (leb (aheadOf p + p .d + p .s) (p .l))
 
 unfoldable pub imageGood : Plan → Bool
 imageGood p = bothOf (bothOf (eqb (p .pointers) 0) (slotsZero? p)) (bothOf (imageRanges p) (imageAgrees p))

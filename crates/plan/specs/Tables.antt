@@ -53,6 +53,18 @@ others =
 unfoldable pub otherCodes : ℕ → Codes
 otherCodes i = getD others i (codes 0 0 0 0)
 
--- an image's sorts by number: the text at 429, bytes a group, the least bytes ahead of the pixels, the lines' second code byte. There is one: `IU2b`
-abbrev pub sortOf : ℕ → Sort
-sortOf sort = record { text = 73 ∷ 85 ∷ 50 ∷ 32 ∷ []; group = 2; ahead = 192; code = 11 }
+-- an image's sort: the text at 429, bytes a group, the least bytes ahead of the pixels, the lines' second code byte
+abbrev pub sort : List ℕ → ℕ → ℕ → ℕ → Sort
+sort text group ahead code = record { text = text; group = group; ahead = ahead; code = code }
+
+-- the sorts by number: counts of two bytes (`IU2b`), then complex samples of two floats (`C*8b`; document 02, No. 2)
+abbrev pub sorts : List Sort
+sorts = sort (73 ∷ 85 ∷ 50 ∷ 32 ∷ []) 2 192 11 ∷ sort (67 ∷ 42 ∷ 56 ∷ 32 ∷ []) 8 412 10 ∷ []
+
+-- the sort of that number; behind the last one nothing is allowed
+unfoldable pub sortOf : ℕ → Sort
+sortOf i = getD sorts i (sort (0 ∷ 0 ∷ 0 ∷ 0 ∷ []) 0 0 0)
+
+-- the last sort's number
+abbrev pub lastSort : ℕ
+lastSort = 1

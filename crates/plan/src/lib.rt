@@ -4,7 +4,7 @@
 ghost use mathlib.Core.Path.{_≡_};
 ghost use Prim.Native.Nat.{ℕ, _+_, _<_, _≤_};
 ghost use lib.ListN.{getD};
-ghost use Rattle.plan.specs.Tables.{rows, slot, facility, slotOf, codes, otherCodes, sortOf};
+ghost use Rattle.plan.specs.Tables.{rows, slot, facility, slotOf, codes, otherCodes, sort, sortOf};
 ghost use Rattle.plan.specs.Plan.{zeroPlan, runCounts, runLengths, firstLength, Small, Spotted, Placed};
 ghost use Rattle.plan.specs.Plan.{sumOf, totalOf, spotFrom, spotOf, firstCodes, lineCodes, codesOf, dueOf, recordsMost};
 
@@ -16,18 +16,19 @@ pub const IMAGE: u64 = 3;
 
 pub const TRAILER: u64 = 4;
 
-// The one image sort of today: bytes a group, and the least bytes that go ahead of the pixels.
-pub const GROUP: u64 = 2;
+// The image's sorts by number: whole counts of two bytes, and complex samples of two floats (document 02,
+// No. 2).
+pub const COUNTS: u64 = 0;
 
-pub const AHEAD: u64 = 192;
+pub const COMPLEX: u64 = 1;
 
 // How many slots and facility pairs of the leader the plan has a count and a length for: slots 1, 2, 3,
 // 4, 5, 7 and the eleven facility pairs.
 pub const ROWS: usize = 17;
 
 // The plan's numbers: the pointer count (volume); count and length of slots 1, 2, 3, 4, 5, 7 and of
-// the eleven facility pairs (leader); lines n, record length L, pixels w, data bytes d and suffix s
-// (image). Numbers that a kind does not use are 0.
+// the eleven facility pairs (leader); lines n, record length L, pixels w, data bytes d, suffix s and
+// sort (image). Numbers that a kind does not use are 0.
 pub struct Plan {
     pub pointers: u64,
     pub counts: [u64; ROWS],
@@ -37,6 +38,7 @@ pub struct Plan {
     pub w: u64,
     pub d: u64,
     pub s: u64,
+    pub sort: u64,
 }
 
 // Where record k stands: in the first record (run 0) or in which run of equal records, how long it
@@ -92,15 +94,26 @@ pub struct Runs {
     pub lengths: [u64; ROWS],
 }
 
-// The image's sorts by number, a row each. There is one today: counts of two bytes.
+// A sort of the image: its text, bytes a group, bytes ahead of the pixels, and its lines' second code byte.
+fn sort_row(text: [u8; 4], group: u64, ahead: u64, code: u64) -> Sort
+    ensures { λ r. ⌜ r ≡ sort text group ahead code ⌝ }
+{
+    Sort {
+        text,
+        group,
+        ahead,
+        code,
+    }
+}
+
+// The image's sorts by number, a row each; behind the last one nothing is allowed.
 pub fn sort_at(sort: u64) -> Sort
     ensures { λ r. ⌜ r ≡ sortOf sort ⌝ }
 {
-    Sort {
-        text: [b'I', b'U', b'2', b' '],
-        group: GROUP,
-        ahead: AHEAD,
-        code: 11,
+    match sort {
+        COUNTS => sort_row([b'I', b'U', b'2', b' '], 2, 192, 11),
+        COMPLEX => sort_row([b'C', b'*', b'8', b' '], 8, 412, 10),
+        _ => sort_row([0u8; 4], 0, 0, 0),
     }
 }
 
@@ -218,7 +231,7 @@ fn codes_of(kind: u64, p: Plan, run: u64) -> Codes
         }
         return other_codes(6);
     }
-    line_codes(0)
+    line_codes(p.sort)
 }
 
 // All zeros: the plan of a state that has passed nothing.
@@ -234,6 +247,7 @@ pub fn zero() -> Plan
         w: 0,
         d: 0,
         s: 0,
+        sort: 0,
     }
 }
 

@@ -16,14 +16,14 @@ use Rattle.promises.specs.Rules.{textRecord, First, promised, Summary, M
 abbrev pub Same : Kind → Plan → Plan → Type 0
 Same volume p q = p .pointers ≡ q .pointers
 Same leader p q = (i : ℕ) → i < rows → (getD (p .counts) i 0 ≡ getD (q .counts) i 0) × (getD (p .lengths) i 0 ≡ getD (q .lengths) i 0)
-Same image p q = (p .n ≡ q .n) × (p .l ≡ q .l) × (p .w ≡ q .w) × (p .d ≡ q .d) × (p .s ≡ q .s)
+Same image p q = (p .n ≡ q .n) × (p .l ≡ q .l) × (p .w ≡ q .w) × (p .d ≡ q .d) × (p .s ≡ q .s) × (p .sort ≡ q .sort)
 Same trailer p q = Unit {0}
 
 -- a plan and itself
 pub same-self : (kind : Kind) (p : Plan) → Same kind p p
 same-self volume p = refl
 same-self leader p = λ i l. (refl, refl)
-same-self image p = (refl, refl, refl, refl, refl)
+same-self image p = (refl, refl, refl, refl, refl, refl)
 same-self trailer p = tt
 
 -- a first record has the length that its kind asks for
@@ -56,13 +56,14 @@ module _ (p q : Plan) (s : Same leader p q) where
       (join (slot-same 4 (slotDue 50 free) (omega arith)) (join (slot-same 5 (slotDue 60 free) (omega arith)) (facility-same 6 11 (omega arith)))))))
 
 -- the lines of an image, by the numbers that they hang on
-line-of : Edition → ℕ → ℕ → ℕ → List Due
-line-of e n l w = replicate n (lineDue e (record { pointers = 0; counts = []; lengths = []; n = n; l = l; w = w; d = 0; s = 0 }))
+line-of : Edition → ℕ → ℕ → ℕ → ℕ → List Due
+line-of e n l w sort = replicate n (lineDue e (record { pointers = 0; counts = []; lengths = []; n = n; l = l; w = w; d = 0; s = 0; sort = sort }))
 
 -- the same in all numbers that its kind uses, the same records behind it
 pub same-promised : (e : Edition) (kind : Kind) (p q : Plan) → Same kind p q → promised e kind p ≡ promised e kind q
 unfolding line-of
 same-promised e volume p q s = ap (λ (m : ℕ). replicate m (pointer e m) ++ (textRecord ∷ [])) s
 same-promised e leader p q s = leader-same p q s e
-same-promised e image p q s = ap (λ (n : ℕ). line-of e n (p .l) (p .w)) (s .0) ∙ ap₂ (λ (l w : ℕ). line-of e (q .n) l w) (s .1) (s .2)
+same-promised e image p q s =
+    ap₂ (λ (n sort : ℕ). line-of e n (p .l) (p .w) sort) (s .0) (s .5) ∙ ap₂ (λ (l w : ℕ). line-of e (q .n) l w (q .sort)) (s .1) (s .2)
 same-promised e trailer p q s = refl

@@ -9,7 +9,7 @@ use Rattle.words.specs.Words.{twoAt, fourAt, placeOf}
 use Rattle.digits.specs.Segments.{mantissaOf, exponentOf}
 use Rattle.decimal.specs.Scan.{written, decimalOf, numberIn}
 use Rattle.fields.specs.Field.{fieldAt}
-use Rattle.plan.specs.Tables.{slotOf, otherCodes}
+use Rattle.plan.specs.Tables.{slotOf, otherCodes, sortOf}
 use Rattle.plan.specs.Plan.{totalOf, sumOf, runCounts, runLengths, firstLength, spotOf, spotFrom, codesOf, allZero, zeroPlan?, planGood, imageGood, firstCodes}
 use Rattle.plan.specs.Plan.{volumeGood, leaderGood, slotsGood}
 use Rattle.verdicts.specs.Tests.{firstFault, textAt}
@@ -42,7 +42,7 @@ ours-counted n st bs c = counted n st bs c
 
 -- the listed image is an accepted file, and the empty file is no trailer
 listed-complete : walkOf 4 (fresh 3) listed true .stop ≡ Complete
-unfolding written decimalOf numberIn mantissaOf exponentOf twoAt fourAt placeOf fieldAt slotOf otherCodes totalOf sumOf runCounts runLengths
+unfolding written decimalOf numberIn mantissaOf exponentOf twoAt fourAt placeOf fieldAt slotOf otherCodes sortOf totalOf sumOf runCounts runLengths
     firstLength spotOf spotFrom codesOf firstCodes allZero zeroPlan? planGood imageGood volumeGood leaderGood slotsGood firstFault textAt bodyOf bodyTests
     imageRecord imageTests numbersTests agreeTests lineTests volumeRecord leaderRecord trailerTests planOf goodState walkOf judgeOf headerOf
     headerTests codesAre endedOf shortOf nextOf badStop
@@ -87,7 +87,7 @@ wrong : List ℕ
 wrong = descriptor "     2" ++ line 1 0 3 0 ++ line 7 1 2 0
 
 wrong-refused : walkOf 4 (fresh 3) wrong true .stop ≡ Complete → ⊥
-unfolding wrong written decimalOf numberIn mantissaOf exponentOf twoAt fourAt placeOf fieldAt slotOf otherCodes totalOf sumOf runCounts runLengths
+unfolding wrong written decimalOf numberIn mantissaOf exponentOf twoAt fourAt placeOf fieldAt slotOf otherCodes sortOf totalOf sumOf runCounts runLengths
     firstLength spotOf spotFrom codesOf firstCodes allZero zeroPlan? planGood imageGood volumeGood leaderGood slotsGood firstFault textAt bodyOf bodyTests
     imageRecord imageTests numbersTests agreeTests lineTests volumeRecord leaderRecord trailerTests planOf goodState walkOf judgeOf headerOf
     headerTests codesAre endedOf shortOf nextOf badStop
@@ -98,7 +98,7 @@ unfolding wrong written decimalOf numberIn mantissaOf exponentOf twoAt fourAt pl
 wrong-planned = omega arith
 
 wrong-waved : waver 4 (fresh 3) wrong true .stop ≡ Complete
-unfolding wrong waver written decimalOf numberIn mantissaOf exponentOf twoAt fourAt placeOf fieldAt slotOf otherCodes totalOf sumOf runCounts
+unfolding wrong waver written decimalOf numberIn mantissaOf exponentOf twoAt fourAt placeOf fieldAt slotOf otherCodes sortOf totalOf sumOf runCounts
     runLengths firstLength spotOf spotFrom codesOf firstCodes allZero zeroPlan? planGood imageGood volumeGood leaderGood slotsGood firstFault textAt bodyOf
     bodyTests imageRecord imageTests numbersTests agreeTests lineTests volumeRecord leaderRecord trailerTests planOf goodState walkOf judgeOf headerOf
     headerTests codesAre endedOf shortOf nextOf badStop

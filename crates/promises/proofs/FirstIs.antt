@@ -37,8 +37,8 @@ first-names leader p q r size = (
   λ d. let h = leader-is p q r size .1 d in (record { head = h .0; body = h .1 }, h .2),
 )
 first-names image p q r size = (
-  λ h. image-is p q r size .0 (h .0 .head, h .0 .body, record { n = h .1 .0; l = h .1 .1; w = h .1 .2; d = h .1 .3; s = h .1 .4 }),
-  λ d. let h = image-is p q r size .1 d in (record { head = h .0; body = h .1 }, (h .2 .n, h .2 .l, h .2 .w, h .2 .d, h .2 .s)),
+  λ h. image-is p q r size .0 (h .0 .head, h .0 .body, record { n = h .1 .0; l = h .1 .1; w = h .1 .2; d = h .1 .3; s = h .1 .4; sort = h .1 .5 }),
+  λ d. let h = image-is p q r size .1 d in (record { head = h .0; body = h .1 }, (h .2 .n, h .2 .l, h .2 .w, h .2 .d, h .2 .s, h .2 .sort)),
 )
 first-names trailer p q r size = (
   λ h. trailer-is p q r size .0 (h .0 .head, h .0 .body),

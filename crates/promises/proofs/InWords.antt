@@ -98,14 +98,14 @@ arriving-said kind {st} o b bs p h =
 
 -- ---- lines, rows, sets
 
-pub line-named-said : (g : ℕ) (bs : List ℕ) (k start count left : ℕ) → (viewAs (viewOf g bs k) ≡ showing start count left) ↔ LineShown g bs k start count left
-line-named-said g bs k start count left =
-    let a = line-named g bs k start count left in
-    (λ e. a .0 (shown-is (viewOf g bs k) start count left e), λ s. ap viewAs (a .1 s))
+pub line-named-said : (bs : List ℕ) (k start count left : ℕ) → (viewAs (viewOf bs k) ≡ showing start count left) ↔ LineShown bs k start count left
+line-named-said bs k start count left =
+    let a = line-named bs k start count left in
+    (λ e. a .0 (shown-is (viewOf bs k) start count left e), λ s. ap viewAs (a .1 s))
 
-pub sample-named-said : (bs : List ℕ) (k : ℕ) (p : Plan) (row : List ℕ) → Stands bs k p → dataCount (lineRecord p k bs) ≤ length row
+pub sample-named-said : (bs : List ℕ) (k : ℕ) (p : Plan) (row : List ℕ) → Stands bs k p → p .sort ≡ 0 → dataCount (lineRecord p k bs) ≤ length row
     → copiedAs (copiedOf bs k (length row)) ≡ record { word = copied; numbers = pos (dataCount (lineRecord p k bs)) ∷ [] }
-sample-named-said bs k p row s h = ap copiedAs (sample-named bs k p row s h .0)
+sample-named-said bs k p row s counts h = ap copiedAs (sample-named bs k p row s counts h .0)
 
 pub set-agrees-said : (bs cs : List ℕ) → (agreementAs (setOf bs cs) .word ≡ agrees) ↔ ((a : Accepted volume bs) × Counts (a .plan .pointers) (a .rest) cs)
 set-agrees-said bs cs =

@@ -8,7 +8,7 @@ use mathlib.Core.Logic.{_↔_}
 use native.Mathlib.Omega.{arith}
 use native.Mathlib.Numerals.{add-one}
 use lib.Dec.{eqb}
-use lib.ListN.{length, getD}
+use lib.ListN.{length, getD, replicate}
 use Rattle.words.specs.Tests.{withinOf}
 use Rattle.words.proofs.Laws.{both-l, both-r, within-true}
 use Rattle.plan.specs.Tables.{slotOf, otherCodes, rows}
@@ -20,9 +20,10 @@ use Rattle.plan.proofs.GoodLaws.{slot-full}
 use Rattle.bodies.specs.Bodies.{bodyOf}
 use Rattle.verdicts.specs.declared.Verdict.the-variants.{Fine}
 use Rattle.headers.specs.Header.{headerOf}
-use Rattle.promises.specs.Rules.{Kind, volume, leader, image, trailer, kindNumber, Due, Record, textRecord}
+use Rattle.promises.specs.Rules.{Kind, volume, leader, image, trailer, kindNumber, Due, Record, Coded, Is, Line, textRecord}
 use Rattle.promises.specs.Newest.{promised}
 use Rattle.promises.proofs.Parts.{CodedBy, header-is}
+use Rattle.promises.proofs.Sorts.{code-same}
 use Rattle.promises.proofs.BodyIs.{holdsOf, Long, body-is}
 use Rattle.promises.proofs.Runs.{expand, expand-length, rows-expand, At, spot-at}
 
@@ -42,7 +43,9 @@ pub promised-runs : (kind : Kind) (p : Plan) → length (p .counts) ≡ rows →
 unfolding runCounts runLengths codesOf otherCodes
 promised-runs volume p c l = refl
 promised-runs leader p c l = leader-runs p c l
-promised-runs image p c l = sym (append-nil _)
+promised-runs image p c l =
+    ap (λ (x : ℕ). replicate (p .n) (record { Codes = Coded 50 x 18 (Is 20); long = p .l; Holds = Line (p .w) })) (sym (code-same (p .sort))) ∙ sym
+    (append-nil _)
 promised-runs trailer p c l = refl
 
 pub runs-length : (kind : Kind) (p : Plan) → length (p .counts) ≡ rows → length (p .lengths) ≡ rows

@@ -3,16 +3,15 @@ use Prim.Native.Nat.{ℕ, zero, suc, _+_, _*_, _≤_, _<_}
 use mathlib.Core.Path.{_≡_, refl, sym, subst}
 use mathlib.Core.Bool.{true}
 use native.Mathlib.Omega.{arith}
-use lib.Dec.{eqb, leb}
+use lib.Dec.{leb}
 use lib.ListN.{length, getD, getD-replicate}
 use borrow.Author.Tests.{leb-true}
-use Rattle.words.specs.Tests.{bothOf}
-use Rattle.words.proofs.Laws.{both-r}
 use Rattle.words.proofs.Table.{every-at}
 use Rattle.plan.specs.Tables.{slot, slots, slotOf, rows}
-use Rattle.plan.specs.Plan.{firstLength, runCounts, runLengths, sumOf, totalOf, planGood, imageGood, imageRanges, imageAgrees, slotsZero?}
+use Rattle.plan.specs.Plan.{firstLength, runCounts, runLengths, sumOf, totalOf, planGood}
 use Rattle.plan.specs.declared.Plan.{Plan}
 use Rattle.plan.specs.declared.Slot.{Slot}
+use Rattle.plan.proofs.GoodLaws.{image-room}
 use Rattle.promises.specs.Rules.{Kind, volume, leader, image, trailer, kindNumber}
 use Rattle.promises.proofs.LaterIs.{dueAt, slot-long, found}
 
@@ -21,12 +20,7 @@ unfolding slotOf
 slot-least j h = leb-true 12 (slotOf j .shortest) (every-at (λ (s : Slot). leb 12 (s .shortest)) slots (slot 0 0 0 0 0) refl j h)
 
 image-least : (p : Plan) → planGood 3 p ≡ true → 12 ≤ p .l
-unfolding planGood imageGood
-image-least p g =
-    let a = both-r (bothOf (eqb (p .pointers) 0) (slotsZero? p)) (bothOf (imageRanges p) (imageAgrees p)) g in
-    let b = both-r (imageRanges p) (imageAgrees p) a in
-    let c = leb-true (192 + p .d + p .s) (p .l) (both-r (eqb (p .d) (2 * p .w)) _ b) in
-    omega arith
+image-least p g = omega (arith, image-room p g)
 
 run-least : (kind : Kind) (p : Plan) → planGood (kindNumber kind) p ≡ true → 1 < totalOf (kindNumber kind) p → (j : ℕ) → j < rows
     → 1 ≤ getD (runCounts (kindNumber kind) p) j 0 → 12 ≤ getD (runLengths (kindNumber kind) p) j 0

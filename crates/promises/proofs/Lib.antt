@@ -13,9 +13,11 @@ pub mod Two
 -- the rules by themselves, at any edition
 pub mod Uniform
 pub mod AnyEdition
+pub mod Widened
 -- the tests of a record are the rules for it: of its parts, of each first record, of the records behind it
 pub mod Each
 pub mod Parts
+pub mod Sorts
 pub mod FirstVolume
 pub mod FirstLeader
 pub mod FirstImage

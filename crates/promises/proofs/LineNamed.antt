@@ -1,5 +1,5 @@
 -- For any bytes a line is shown exactly where the rules say that it stands there, and then exactly its data pixels: each test of the view is a rule's
--- line. Under a plan this holds over the sample size g.
+-- line, for every sort of image.
 use Prim.Native.Nat.{ℕ, zero, suc, _+_, _-_, _*_, _≤_}
 use mathlib.Core.Path.{_≡_, refl, sym, ap, _∙_, subst}
 use mathlib.Core.List.{List, [], _∷_, _++_}
@@ -11,7 +11,8 @@ use lib.ListN.{length, take, drop, length-drop, take-append-drop}
 use lib.Seq.{length-take-le, take-append-le, drop-append-le, drop-drop}
 use Rattle.words.specs.Words.{twoAt, fourAt, placeOf}
 use Rattle.words.proofs.Laws.{within-true, true-within}
-use Rattle.plan.specs.Plan.{image as image′, group, firstLength, lineCodes, dueOf}
+use Rattle.plan.specs.Plan.{image as image′, groupOf, firstLength, lineCodes, dueOf}
+use Rattle.plan.specs.Tables.{codes, sortOf as sortOf′}
 use Rattle.plan.specs.declared.Plan.{Plan}
 use Rattle.plan.specs.declared.Due.{Due}
 use Rattle.bodies.specs.Bodies.{bodyOf}
@@ -22,31 +23,33 @@ use Rattle.walk.specs.Walk.{nextOf}
 use Rattle.turns.specs.declared.Stop.{Stop}
 use Rattle.turns.specs.declared.Stop.the-variants.{Wait as Wait′, Pause, Complete, Refused as Refused′}
 use Rattle.walk.specs.declared.Walked.{Walked}
-use Rattle.lines.specs.View.{lineOf, behindFirst, firstOf, viewOf, shownBytes, pixelsOf}
+use Rattle.lines.specs.View.{lineOf, behindFirst, firstOf, viewOf, sortSeen, shownBytes, pixelsOf}
 use Rattle.lines.specs.declared.View.{View}
 use Rattle.lines.specs.declared.View.the-variants.{Shown}
 use Rattle.lines.proofs.ViewLaws.{Seen, line-seen, seen-line, view-line, wait≢shown, refused≢shown}
 use Rattle.plan.proofs.CodeLaws.{line-due}
 use Rattle.lines.proofs.InsideLaws.{found-parts, parts-found, data-fits}
-use Rattle.promises.specs.Rules.{image, Record, Line}
+use Rattle.promises.specs.Rules.{image, Record, Line, Coded, Is, sortOf}
 use Rattle.promises.specs.Newest.{ImageDescriptor, lineDue}
-use Rattle.promises.specs.Shown.{lineStart, lineRecord, WholeLine, Stands, leftFill, dataCount, before, dataStart, dataPixels, LineNumbers, LineShown}
+use Rattle.promises.specs.Shown.{lineStart, lineRecord, WholeLine, Stands, leftFill, dataCount, before, bytesOf, dataStart, dataPixels, LineNumbers}
+use Rattle.promises.specs.Shown.{LineShown}
 use Rattle.promises.proofs.BodyIs.{body-is}
 use Rattle.promises.proofs.Counted.{open-never-complete, pause-counted}
 use Rattle.promises.proofs.AnyEdition.{Same}
 use Rattle.promises.proofs.FirstPasses.{taken-long, first-step, first-same}
 use Rattle.promises.proofs.Parts.{header-four}
 use Rattle.promises.proofs.PlanNamed.{plan-named}
+use Rattle.promises.proofs.Sorts.{group-same, code-same}
 
 -- line k's record as it is due
 abbrev pub lineAs : Plan → ℕ → Due
-lineAs p k = record { ordinal = k + 1; run = 1; codes = lineCodes 0; length = p .l; start = lineStart p k }
+lineAs p k = record { ordinal = k + 1; run = 1; codes = lineCodes (p .sort); length = p .l; start = lineStart p k }
 
 pub as-due : (p : Plan) (k : ℕ) → 1 ≤ k → k ≤ p .n → dueOf image′ p k ≡ lineAs p k
 as-due p zero a b = absurd (omega arith)
 as-due p (suc j) a b =
     line-due p j (omega arith)
-    ∙ ap (λ (i : ℕ). record { ordinal = suc j + 1; run = 1; codes = lineCodes 0; length = p .l; start = 720 + i * p .l })
+    ∙ ap (λ (i : ℕ). record { ordinal = suc j + 1; run = 1; codes = lineCodes (p .sort); length = p .l; start = 720 + i * p .l })
     (let e : j ≡ suc j - 1 = omega arith in e)
 
 -- ---- under a plan: a line is shown exactly where it is whole
@@ -70,64 +73,67 @@ module _ (p : Plan) (k : ℕ) (bs : List ℕ) where
   line-size h = length-take-le (p .l) (drop (lineStart p k) bs) (omega (arith, length-drop (lineStart p k) bs))
 
   pub line-header : length (lineRecord p k bs) ≡ p .l
-      → (headerOf (k + 1) (lineCodes 0) (p .l) (lineRecord p k bs) ≡ Fine) ↔ Record (suc k) (lineDue p .Codes) (p .l) (lineRecord p k bs)
+      → (headerOf (k + 1) (lineCodes (p .sort)) (p .l) (lineRecord p k bs) ≡ Fine) ↔ Record (suc k) (lineDue p .Codes) (p .l) (lineRecord p k bs)
   line-header size =
-      subst (λ (o : ℕ). (headerOf o (lineCodes 0) (p .l) (lineRecord p k bs) ≡ Fine) ↔ Record (suc k) (lineDue p .Codes) (p .l) (lineRecord p k bs))
-      (sym (add-one k)) (header-four (suc k) 50 11 18 20 (p .l) (lineRecord p k bs) size)
+      subst (λ (o : ℕ). (headerOf o (lineCodes (p .sort)) (p .l) (lineRecord p k bs) ≡ Fine) ↔ Record (suc k) (lineDue p .Codes) (p .l) (lineRecord p k bs))
+      (sym (add-one k))
+      (subst (λ (x : ℕ). (headerOf (suc k) (codes 50 x 18 20) (p .l) (lineRecord p k bs) ≡ Fine) ↔ Record (suc k) (lineDue p .Codes) (p .l) (lineRecord p k bs))
+      (sym (code-same (p .sort))) (header-four (suc k) 50 (sortOf (p .sort) .code) 18 20 (p .l) (lineRecord p k bs) size))
 
   pub line-body : (bodyOf image′ 1 p k (lineRecord p k bs) ≡ Fine) ↔ Line (p .w) k (lineRecord p k bs)
   line-body = body-is image p 1 k (lineRecord p k bs) tt
 
-  module _ (g : ℕ) where
-    seen-whole : (start count left : ℕ) → Seen g p k (lineAs p k) bs start count left → WholeLine bs k p
-    seen-whole start count left q =
-        let h = within-true 1 k (p .n) (q .inside) in
-        let f = found-parts p k (lineAs p k) (lineRecord p k bs) (q .fine) in
-        record { least = h .0; most = h .1; is = line-header (line-size (q .whole)) .0 (f .0); holds = line-body .0 (f .1) }
+  seen-whole : (start count left : ℕ) → Seen p k (lineAs p k) bs start count left → WholeLine bs k p
+  seen-whole start count left q =
+      let h = within-true 1 k (p .n) (q .inside) in
+      let f = found-parts p k (lineAs p k) (lineRecord p k bs) (q .fine) in
+      record { least = h .0; most = h .1; is = line-header (line-size (q .whole)) .0 (f .0); holds = line-body .0 (f .1) }
 
-    whole-seen : WholeLine bs k p
-        → Seen g p k (lineAs p k) bs (dataStart g p k (lineRecord p k bs)) (dataCount (lineRecord p k bs)) (leftFill (lineRecord p k bs))
-    whole-seen t =
-        record {
-          inside = true-within 1 k (p .n) (t .least) (t .most);
-          whole = whole-held bs k p t;
-          fine = parts-found p k (lineAs p k) (lineRecord p k bs) (line-header (t .is .size) .1 (t .is)) (line-body .1 (t .holds));
-          starts = refl;
-          counts = refl;
-          lefts = refl;
-        }
+  whole-seen : WholeLine bs k p
+      → Seen p k (lineAs p k) bs (dataStart p k (lineRecord p k bs)) (dataCount (lineRecord p k bs)) (leftFill (lineRecord p k bs))
+  whole-seen t =
+      record {
+        inside = true-within 1 k (p .n) (t .least) (t .most);
+        whole = whole-held bs k p t;
+        fine = parts-found p k (lineAs p k) (lineRecord p k bs) (line-header (t .is .size) .1 (t .is)) (line-body .1 (t .holds));
+        starts = ap (λ (i : ℕ). lineStart p k + before p + i * leftFill (lineRecord p k bs)) (sym (group-same (p .sort)));
+        counts = refl;
+        lefts = refl;
+      }
 
-    -- what is shown of a line that is whole
-    whole-shown : WholeLine bs k p
-        → lineOf g p k bs ≡ Shown (dataStart g p k (lineRecord p k bs)) (dataCount (lineRecord p k bs)) (leftFill (lineRecord p k bs))
-    whole-shown t =
-        seen-line g p k bs _ _ _
-        (subst (λ (s : Due). Seen g p k s bs (dataStart g p k (lineRecord p k bs)) (dataCount (lineRecord p k bs)) (leftFill (lineRecord p k bs)))
-        (sym (as-due p k (t .least) (t .most))) (whole-seen t))
+  -- what is shown of a line that is whole
+  whole-shown : WholeLine bs k p
+      → lineOf p k bs ≡ Shown (dataStart p k (lineRecord p k bs)) (dataCount (lineRecord p k bs)) (leftFill (lineRecord p k bs))
+  whole-shown t =
+      seen-line p k bs _ _ _
+      (subst (λ (s : Due). Seen p k s bs (dataStart p k (lineRecord p k bs)) (dataCount (lineRecord p k bs)) (leftFill (lineRecord p k bs)))
+      (sym (as-due p k (t .least) (t .most))) (whole-seen t))
 
-    shown-whole : (start count left : ℕ) → lineOf g p k bs ≡ Shown start count left → WholeLine bs k p × LineNumbers g p k bs start count left
-    shown-whole start count left e =
-        let q = line-seen g p k bs start count left e in
-        let h = within-true 1 k (p .n) (q .inside) in
-        let t : Seen g p k (lineAs p k) bs start count left = subst (λ (s : Due). Seen g p k s bs start count left) (as-due p k (h .0) (h .1)) q in
-        (seen-whole start count left t, (t .starts, t .counts, t .lefts))
+  shown-whole : (start count left : ℕ) → lineOf p k bs ≡ Shown start count left → WholeLine bs k p × LineNumbers p k bs start count left
+  shown-whole start count left e =
+      let q = line-seen p k bs start count left e in
+      let h = within-true 1 k (p .n) (q .inside) in
+      let t : Seen p k (lineAs p k) bs start count left = subst (λ (s : Due). Seen p k s bs start count left) (as-due p k (h .0) (h .1)) q in (
+        seen-whole start count left t,
+        (t .starts ∙ ap (λ (i : ℕ). lineStart p k + before p + i * leftFill (lineRecord p k bs)) (group-same (p .sort)), t .counts, t .lefts),
+      )
 
--- for any plan, any bytes and any sample size: a line is shown exactly where it is whole, with the numbers that the rules give it
-pub line-under : (g : ℕ) (p : Plan) (k : ℕ) (bs : List ℕ) (start count left : ℕ)
-    → (lineOf g p k bs ≡ Shown start count left) ↔ (WholeLine bs k p × LineNumbers g p k bs start count left)
-line-under g p k bs start count left = (shown-whole p k bs g start count left, back)
+-- for any plan and any bytes: a line is shown exactly where it is whole, with the numbers that the rules give it
+pub line-under : (p : Plan) (k : ℕ) (bs : List ℕ) (start count left : ℕ)
+    → (lineOf p k bs ≡ Shown start count left) ↔ (WholeLine bs k p × LineNumbers p k bs start count left)
+line-under p k bs start count left = (shown-whole p k bs start count left, back)
   where
-    back : WholeLine bs k p × LineNumbers g p k bs start count left → lineOf g p k bs ≡ Shown start count left
-    back (t, (a, b, c)) = whole-shown p k bs g t ∙ rw (a, b, c)
+    back : WholeLine bs k p × LineNumbers p k bs start count left → lineOf p k bs ≡ Shown start count left
+    back (t, (a, b, c)) = whole-shown p k bs t ∙ rw (a, b, c)
 
 -- ---- a shown line stands there
 
 -- the first record has passed
-pub shown-first : (g : ℕ) (bs : List ℕ) (k start count left : ℕ) → viewOf g bs k ≡ Shown start count left → firstOf bs .stop ≡ Pause
+pub shown-first : (bs : List ℕ) (k start count left : ℕ) → viewOf bs k ≡ Shown start count left → firstOf bs .stop ≡ Pause
 unfolding viewOf
-shown-first g bs k start count left e = go (firstOf bs .stop) refl e
+shown-first bs k start count left e = go (firstOf bs .stop) refl e
   where
-    go : (x : Stop) → firstOf bs .stop ≡ x → behindFirst x (lineOf g (firstOf bs .state .plan) k bs) ≡ Shown start count left → firstOf bs .stop ≡ Pause
+    go : (x : Stop) → firstOf bs .stop ≡ x → behindFirst x (lineOf (firstOf bs .state .plan) k bs) ≡ Shown start count left → firstOf bs .stop ≡ Pause
     go (Wait′ n) q e = absurd (wait≢shown _ _ _ _ e)
     go Pause q e = q
     go Complete q e = absurd (open-never-complete 1 (fresh image′) bs q)
@@ -137,11 +143,11 @@ pub first-there : (bs : List ℕ) → firstOf bs .stop ≡ Pause → ImageDescri
 unfolding firstLength
 first-there bs e = plan-named image bs false 1 (λ z. let m = pause-counted 1 (fresh image′) bs false e in omega arith)
 
-shown-to : (g : ℕ) (bs : List ℕ) (k start count left : ℕ) → viewOf g bs k ≡ Shown start count left → LineShown g bs k start count left
-shown-to g bs k start count left e =
+shown-to : (bs : List ℕ) (k start count left : ℕ) → viewOf bs k ≡ Shown start count left → LineShown bs k start count left
+shown-to bs k start count left e =
     let p = firstOf bs .state .plan in
-    let (t, a) = line-under g p k bs start count left .0 (view-line g bs k start count left e) in
-    (p, record { first = first-there bs (shown-first g bs k start count left e); line = t }, a)
+    let (t, a) = line-under p k bs start count left .0 (view-line bs k start count left e) in
+    (p, record { first = first-there bs (shown-first bs k start count left e); line = t }, a)
 
 -- ---- and back: a line that stands there is shown
 
@@ -162,31 +168,32 @@ module _ (bs : List ℕ) (k : ℕ) (p q : Plan) (same : Same image p q) where
       record {
         least = t .least;
         most = let h = t .most in let e = same .0 in omega arith;
-        is = subst (λ (l : ℕ). Record (suc k) (lineDue p .Codes) l (lineRecord p k bs)) (sym (same .1))
-            (subst (Record (suc k) (lineDue p .Codes) (q .l)) r (t .is));
+        is = subst (λ (i : ℕ). Record (suc k) (Coded 50 (sortOf i .code) 18 (Is 20)) (p .l) (lineRecord p k bs)) (sym (same .5))
+            (subst (λ (l : ℕ). Record (suc k) (lineDue q .Codes) l (lineRecord p k bs)) (sym (same .1))
+            (subst (Record (suc k) (lineDue q .Codes) (q .l)) r (t .is)));
         holds = subst (λ (w : ℕ). Line w k (lineRecord p k bs)) (sym (same .2)) (subst (Line (q .w) k) r (t .holds));
       }
 
-  same-shown : (g : ℕ) → Shown (dataStart g p k (lineRecord p k bs)) (dataCount (lineRecord p k bs)) (leftFill (lineRecord p k bs))
-      ≡ Shown (dataStart g q k (lineRecord q k bs)) (dataCount (lineRecord q k bs)) (leftFill (lineRecord q k bs))
-  same-shown g = rw (same-record, same-start, same-before)
+  same-shown : Shown (dataStart p k (lineRecord p k bs)) (dataCount (lineRecord p k bs)) (leftFill (lineRecord p k bs))
+      ≡ Shown (dataStart q k (lineRecord q k bs)) (dataCount (lineRecord q k bs)) (leftFill (lineRecord q k bs))
+  same-shown = rw (same-record, same-start, same-before, same .5)
 
-pub stands-shown : (g : ℕ) (bs : List ℕ) (k : ℕ) (q : Plan) → Stands bs k q
-    → viewOf g bs k ≡ Shown (dataStart g q k (lineRecord q k bs)) (dataCount (lineRecord q k bs)) (leftFill (lineRecord q k bs))
+pub stands-shown : (bs : List ℕ) (k : ℕ) (q : Plan) → Stands bs k q
+    → viewOf bs k ≡ Shown (dataStart q k (lineRecord q k bs)) (dataCount (lineRecord q k bs)) (leftFill (lineRecord q k bs))
 unfolding viewOf firstLength
-stands-shown g bs k q t =
+stands-shown bs k q t =
     let p = nextOf (fresh image′) bs .plan in
     let same : Same image p q = first-same image bs q (t .first) in
-    ap (λ (w : Walked). behindFirst (w .stop) (lineOf g (w .state .plan) k bs)) (first-step image bs q (t .first) false)
-    ∙ whole-shown p k bs g (same-whole bs k p q same (t .line))
-    ∙ same-shown bs k p q same g
+    ap (λ (w : Walked). behindFirst (w .stop) (lineOf (w .state .plan) k bs)) (first-step image bs q (t .first) false)
+    ∙ whole-shown p k bs (same-whole bs k p q same (t .line))
+    ∙ same-shown bs k p q same
 
--- for any bytes and any sample size: a line is shown exactly where it stands there, with the numbers that the rules give it
-pub line-named : (g : ℕ) (bs : List ℕ) (k start count left : ℕ) → (viewOf g bs k ≡ Shown start count left) ↔ LineShown g bs k start count left
-line-named g bs k start count left = (shown-to g bs k start count left, back)
+-- for any bytes: a line is shown exactly where it stands there, with the numbers that the rules give it
+pub line-named : (bs : List ℕ) (k start count left : ℕ) → (viewOf bs k ≡ Shown start count left) ↔ LineShown bs k start count left
+line-named bs k start count left = (shown-to bs k start count left, back)
   where
-    back : LineShown g bs k start count left → viewOf g bs k ≡ Shown start count left
-    back (p, t, (a, b, c)) = stands-shown g bs k p t ∙ rw (a, b, c)
+    back : LineShown bs k start count left → viewOf bs k ≡ Shown start count left
+    back (p, t, (a, b, c)) = stands-shown bs k p t ∙ rw (a, b, c)
 
 -- ---- and then exactly its data pixels are handed out
 
@@ -199,33 +206,43 @@ part-of S L x m bs h k =
     ap (drop x) (sym (take-append-drop L ys)) ∙ drop-append-le x (take L ys) (drop L ys) (omega arith) in
     sym (ap (take m) (sym (drop-drop x S bs) ∙ e) ∙ take-append-le m (drop x (take L ys)) (drop L ys) (omega (arith, length-drop x (take L ys))))
 
--- under any plan whose pixels, of g bytes each, fill d, where d and the suffix fit L
-module _ (g : ℕ) (bs : List ℕ) (k : ℕ) (p : Plan) (paired : p .d ≡ g * p .w) (room : p .d + p .s ≤ p .l) (t : WholeLine bs k p) where
+-- under any plan whose pixels fill d, where d and the suffix fit L
+module _ (bs : List ℕ) (k : ℕ) (p : Plan) (paired : p .d ≡ bytesOf p * p .w) (room : p .d + p .s ≤ p .l) (t : WholeLine bs k p) where
   -- the data pixels of a line that is whole lie in its record, before the suffix
-  pub line-fits : before p + g * leftFill (lineRecord p k bs) + g * dataCount (lineRecord p k bs) ≤ p .l - p .s
-  line-fits = data-fits g p (leftFill (lineRecord p k bs)) (dataCount (lineRecord p k bs)) (fourAt (lineRecord p k bs) (placeOf 29)) paired room
+  pub line-fits : before p + bytesOf p * leftFill (lineRecord p k bs) + bytesOf p * dataCount (lineRecord p k bs) ≤ p .l - p .s
+  line-fits =
+      data-fits (bytesOf p) p (leftFill (lineRecord p k bs)) (dataCount (lineRecord p k bs)) (fourAt (lineRecord p k bs) (placeOf 29)) paired room
       (t .holds .fills)
 
-  pub whole-pixels : shownBytes g (Shown (dataStart g p k (lineRecord p k bs)) (dataCount (lineRecord p k bs)) (leftFill (lineRecord p k bs))) bs
-      ≡ dataPixels g p (lineRecord p k bs)
+  pub whole-pixels : shownBytes (bytesOf p) (Shown (dataStart p k (lineRecord p k bs)) (dataCount (lineRecord p k bs)) (leftFill (lineRecord p k bs))) bs
+      ≡ dataPixels p (lineRecord p k bs)
   whole-pixels =
       let r = lineRecord p k bs in
+      let g = bytesOf p in
       let w = whole-held bs k p t in
       let f = line-fits in
-      ap (λ (x : ℕ). take (g * dataCount r) (drop x bs)) (let e : dataStart g p k r ≡ lineStart p k + (before p + g * leftFill r) = omega arith in e)
+      ap (λ (x : ℕ). take (g * dataCount r) (drop x bs)) (let e : dataStart p k r ≡ lineStart p k + (before p + g * leftFill r) = omega arith in e)
       ∙ sym (part-of (lineStart p k) (p .l) (before p + g * leftFill r) (g * dataCount r) bs (omega (arith, length-drop (lineStart p k) bs)) (omega arith))
 
-  pub line-pixels : shownBytes g (lineOf g p k bs) bs ≡ dataPixels g p (lineRecord p k bs)
-  line-pixels = ap (λ (v : View). shownBytes g v bs) (whole-shown p k bs g t) ∙ whole-pixels
+  pub line-pixels : shownBytes (bytesOf p) (lineOf p k bs) bs ≡ dataPixels p (lineRecord p k bs)
+  line-pixels = ap (λ (v : View). shownBytes (bytesOf p) v bs) (whole-shown p k bs t) ∙ whole-pixels
 
--- under the plan that the first record names, d = 2w
+-- the sort that is seen is the one that the first record names
+pub sort-seen : (bs : List ℕ) (p : Plan) → ImageDescriptor (take 720 bs) p → sortSeen bs ≡ p .sort
+unfolding sortSeen firstLength
+sort-seen bs p d = ap (λ (w : Walked). w .state .plan .sort) (first-step image bs p d false) ∙ first-same image bs p d .5
+
+-- under the plan that the first record names
 module _ (bs : List ℕ) (k : ℕ) (p : Plan) (t : Stands bs k p) where
   pub stands-room : p .d + p .s ≤ p .l
   stands-room = let m = t .first .room in omega arith
 
-  pub stands-fits : before p + 2 * leftFill (lineRecord p k bs) + 2 * dataCount (lineRecord p k bs) ≤ p .l - p .s
-  stands-fits = line-fits 2 bs k p (t .first .paired) stands-room (t .line)
+  pub stands-fits : before p + bytesOf p * leftFill (lineRecord p k bs) + bytesOf p * dataCount (lineRecord p k bs) ≤ p .l - p .s
+  stands-fits = line-fits bs k p (t .first .paired) stands-room (t .line)
 
-  pub pixels-named : pixelsOf group bs k ≡ dataPixels 2 p (lineRecord p k bs)
+  pub pixels-named : pixelsOf bs k ≡ dataPixels p (lineRecord p k bs)
   unfolding pixelsOf
-  pixels-named = ap (λ (v : View). shownBytes group v bs) (stands-shown group bs k p t) ∙ whole-pixels 2 bs k p (t .first .paired) stands-room (t .line)
+  pixels-named =
+      ap (λ (i : ℕ). shownBytes (sortOf′ i .group) (viewOf bs k) bs) (sort-seen bs p (t .first))
+      ∙ ap (λ (i : ℕ). shownBytes i (viewOf bs k) bs) (group-same (p .sort))
+      ∙ ap (λ (v : View). shownBytes (bytesOf p) v bs) (stands-shown bs k p t) ∙ whole-pixels bs k p (t .first .paired) stands-room (t .line)

@@ -9,8 +9,9 @@ use lib.Dec.{ltb}
 use borrow.Author.Tests.{ltb-true, ltb-false}
 use Rattle.words.proofs.Laws.{cases}
 use Rattle.plan.specs.declared.Plan.{Plan}
+use Rattle.promises.specs.Rules.{sortOf}
 use Rattle.promises.specs.Newest.{ImageDescriptor}
-use Rattle.promises.specs.Shown.{lineStart, lineRecord, Pixel, WholeLine, Stands, dataCount, dataStart}
+use Rattle.promises.specs.Shown.{lineStart, lineRecord, Pixel, WholeLine, Stands, dataCount, bytesOf, dataStart}
 use Rattle.promises.proofs.LineNamed.{line-fits, stands-room}
 
 -- what goes before, the data and the suffix fit L
@@ -34,18 +35,19 @@ module _ (ahead : ℕ) (p : Plan) (room : ahead + p .d + p .s ≤ p .l) where
 
 -- for every plan that the rules allow
 pub lines-apart : (r : List ℕ) (p : Plan) → ImageDescriptor r p → (i j at : ℕ) → 1 ≤ i → 1 ≤ j → i ≢ j → Pixel p i at → Pixel p j at → ⊥
-lines-apart r p d = areas-apart 192 p (d .room)
+lines-apart r p d = areas-apart (sortOf (p .sort) .ahead) p (d .room)
 
-pub lines-inside : (r : List ℕ) (p : Plan) → ImageDescriptor r p → (k at : ℕ) → Pixel p k at → (lineStart p k + 192 ≤ at) × (at + p .s < lineStart p k + p .l)
-lines-inside r p d = pixel-inside 192 p (d .room)
+pub lines-inside : (r : List ℕ) (p : Plan) → ImageDescriptor r p → (k at : ℕ) → Pixel p k at
+    → (lineStart p k + sortOf (p .sort) .ahead ≤ at) × (at + p .s < lineStart p k + p .l)
+lines-inside r p d = pixel-inside (sortOf (p .sort) .ahead) p (d .room)
 
--- the data pixels of a line that is whole are among its pixels, under any plan whose pixels, of g bytes each, fill d
-pub line-data : (g : ℕ) (bs : List ℕ) (k : ℕ) (p : Plan) → p .d ≡ g * p .w → p .d + p .s ≤ p .l → WholeLine bs k p → (i : ℕ)
-    → i < g * dataCount (lineRecord p k bs)
-    → Pixel p k (dataStart g p k (lineRecord p k bs) + i)
-line-data g bs k p paired room t i h = let f = line-fits g bs k p paired room t in record { from = omega arith; to = omega arith }
+-- the data pixels of a line that is whole are among its pixels, under any plan whose pixels fill d
+pub line-data : (bs : List ℕ) (k : ℕ) (p : Plan) → p .d ≡ bytesOf p * p .w → p .d + p .s ≤ p .l → WholeLine bs k p → (i : ℕ)
+    → i < bytesOf p * dataCount (lineRecord p k bs)
+    → Pixel p k (dataStart p k (lineRecord p k bs) + i)
+line-data bs k p paired room t i h = let f = line-fits bs k p paired room t in record { from = omega arith; to = omega arith }
 
--- and so those that are shown of a line, where d = 2w
-pub data-are-pixels : (bs : List ℕ) (k : ℕ) (p : Plan) → Stands bs k p → (i : ℕ) → i < 2 * dataCount (lineRecord p k bs)
-    → Pixel p k (dataStart 2 p k (lineRecord p k bs) + i)
-data-are-pixels bs k p t = line-data 2 bs k p (t .first .paired) (stands-room bs k p t) (t .line)
+-- and so those that are shown of a line
+pub data-are-pixels : (bs : List ℕ) (k : ℕ) (p : Plan) → Stands bs k p → (i : ℕ) → i < bytesOf p * dataCount (lineRecord p k bs)
+    → Pixel p k (dataStart p k (lineRecord p k bs) + i)
+data-are-pixels bs k p t = line-data bs k p (t .first .paired) (stands-room bs k p t) (t .line)

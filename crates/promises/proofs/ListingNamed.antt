@@ -17,7 +17,7 @@ use Rattle.plan.specs.Plan.{image as image′, firstLength, totalOf, spotOf, li
 use Rattle.plan.specs.declared.Plan.{Plan}
 use Rattle.plan.specs.declared.Due.{Due}
 use Rattle.plan.proofs.CodeLaws.{line-due, image-total}
-use Rattle.plan.proofs.GoodLaws.{image-agrees}
+use Rattle.plan.proofs.GoodLaws.{image-room}
 use Rattle.bodies.specs.Bodies.{bodyOf}
 use Rattle.verdicts.specs.declared.Verdict.the-variants.{Fine}
 use Rattle.headers.specs.Header.{headerOf}
@@ -71,15 +71,15 @@ module _ (p : Plan) (good : planGood image′ p ≡ true) (input : List ℕ) whe
       let q = subst (λ (x : Due). Parts (leb (totalOf image′ p) (suc k)) (ltb (length (from k)) 12) (ltb (length (from k)) (x .length))
       (headerOf (x .ordinal) (x .codes) (x .length) (from k)) (bodyOf image′ (x .run) p (suc k) (take (x .length) (from k))))
       (line-due p k h) (pass-parts image′ p (suc k) (nextDue (at p (suc k))) (from k) true t) in
-      let a = image-agrees p good in
+      let a = image-room p good in
       let whole = ltb-false (length (from k)) (p .l) (q .whole) in
       let held : lineStart p (suc k) + p .l ≤ length input =
       subst (λ (i : ℕ). 720 + i * p .l + p .l ≤ length input) (let e : k ≡ suc k - 1 = omega arith in e)
-      (omega (arith, length-drop (720 + k * p .l) input, a .1)) in
+      (omega (arith, length-drop (720 + k * p .l) input, a)) in
       let size = line-size p (suc k) input held in
-      let head : headerOf (suc k + 1) (lineCodes 0) (p .l) (lineRecord p (suc k) input) ≡ Fine =
-      ap (λ (r : List ℕ). headerOf (suc k + 1) (lineCodes 0) (p .l) r) (sym (same-record k))
-      ∙ header-take (suc k + 1) (lineCodes 0) (p .l) (p .l) (from k) (omega (arith, a .1)) ∙ q .head in
+      let head : headerOf (suc k + 1) (lineCodes (p .sort)) (p .l) (lineRecord p (suc k) input) ≡ Fine =
+      ap (λ (r : List ℕ). headerOf (suc k + 1) (lineCodes (p .sort)) (p .l) r) (sym (same-record k))
+      ∙ header-take (suc k + 1) (lineCodes (p .sort)) (p .l) (p .l) (from k) (omega (arith, a)) ∙ q .head in
       let body : bodyOf image′ 1 p (suc k) (lineRecord p (suc k) input) ≡ Fine =
       ap (λ (r : List ℕ). bodyOf image′ 1 p (suc k) r) (sym (same-record k)) ∙ q .body in
       record { least = omega arith; most = omega arith; is = line-header p (suc k) input size .0 head; holds = line-body p (suc k) input .0 body }

@@ -8,7 +8,7 @@ use Rattle.words.specs.Words.{placeOf}
 use Rattle.digits.specs.Segments.{mantissaOf}
 use Rattle.decimal.specs.Scan.{numberIn, decimalOf, written}
 use Rattle.fields.specs.Field.{fieldAt}
-use Rattle.plan.specs.Tables.{slotOf, otherCodes}
+use Rattle.plan.specs.Tables.{slotOf, otherCodes, sortOf}
 use Rattle.plan.specs.Plan.{firstLength, firstCodes}
 use Rattle.plan.specs.declared.Plan.{Plan}
 use Rattle.verdicts.specs.Tests.{firstFault, textAt}
@@ -58,7 +58,7 @@ module _ (p : Plan) where
 
   image-body : bodyOf 3 0 p 0 (firstOf 3 imageParts) ≡ Fine
   unfolding firstOf imageParts blanks bodyOf bodyTests imageRecord imageTests agreeTests numbersTests firstFault textAt fieldAt placeOf mantissaOf
-      numberIn decimalOf written made four
+      numberIn decimalOf written made four sortOf
   image-body = refl
 
   trailer-body : bodyOf 4 0 p 0 (firstOf 4 trailerParts) ≡ Fine

@@ -19,13 +19,13 @@ use Rattle.fields.specs.Field.{fieldAt}
 use Rattle.plan.specs.Tables.{slot, slots, slotOf, otherCodes, rows}
 use Rattle.plan.specs.Plan.{volume, leader, image, codesOf, firstLength, runCounts, runLengths, sumOf, totalOf, spotFrom, spotOf, dueOf}
 use Rattle.plan.specs.Plan.{slotGood, slotsGood, recordsMost}
-use Rattle.plan.specs.Plan.{slotsZero?, imageRanges, leaderGood, imageGood, planGood}
+use Rattle.plan.specs.Plan.{leaderGood, planGood}
 use Rattle.plan.specs.declared.Codes.{Codes}
 use Rattle.plan.specs.declared.Plan.{Plan}
 use Rattle.plan.specs.declared.Slot.{Slot}
 use Rattle.plan.specs.declared.Spot.{Spot}
 use Rattle.plan.proofs.Bounds.{slot-each, small-good, total-small}
-use Rattle.plan.proofs.GoodLaws.{image-bounds}
+use Rattle.plan.proofs.GoodLaws.{image-bounds, image-within, image-room}
 use Rattle.verdicts.specs.Tests.{firstFault, textAt, textTest}
 use Rattle.verdicts.specs.Numbers.{numbersTests}
 use Rattle.volume.specs.Volume.{classText, pointerNumbers, pointerTests, volumeRecord}
@@ -37,6 +37,7 @@ use Rattle.verdicts.proofs.Holding.{Holds, holds-fine}
 use Rattle.headers.specs.Header.{headerOf}
 use Rattle.promises.specs.Bytes.{Bytes}
 use Rattle.promises.specs.Witness.{four, made, classBytes, pointerParts, pointerRest, lineParts, lineRest}
+use Rattle.promises.proofs.Sorts.{sort-code}
 use Rattle.promises.proofs.Made.{four-sum, four-bytes, made-header, made-length, made-bytes, bytes-concat, bytes-same, Small}
 
 -- ---- the run of a record that is due
@@ -235,17 +236,12 @@ module _ (p : Plan) (k n : ℕ) (c : Codes) where
   line-body = holds-fine (lineTests (p .w) k (made n c (p .l) (lineRest p k))) line-holds
 
 module _ (p : Plan) (good : planGood 3 p ≡ true) where
-  image-bits : (imageRanges p ≡ true) × (192 + p .d + p .s ≤ p .l)
-  unfolding planGood imageGood
-  image-bits =
-      let r = both-r (bothOf (eqb (p .pointers) 0) (slotsZero? p)) _ good in
-      (both-l (imageRanges p) _ r, leb-true _ _ (both-r (eqb (p .d) (2 * p .w)) _ (both-r (imageRanges p) _ r)))
-
   line-some : (k : ℕ) → k < recordsMost + 1 → Passing 3 p k 1 (p .l)
   unfolding lineRest lineParts four codesOf otherCodes
   line-some k hk =
-      let b = image-bounds p (image-bits .0) in
-      put 3 p k 1 (p .l) (lineRest p k) hk (omega (arith, b .4)) (record { one = omega arith; two = omega arith; three = omega arith; four = omega arith })
+      let b = image-bounds p (image-within p good) in
+      put 3 p k 1 (p .l) (lineRest p k) hk (omega (arith, b .4)) (record
+      { one = omega arith; two = omega (arith, sort-code (p .sort)); three = omega arith; four = omega arith })
       (bytes-concat (lineParts p k) (
         four-bytes k (omega arith),
         (
@@ -253,7 +249,7 @@ module _ (p : Plan) (good : planGood 3 p ≡ true) where
           (four-bytes 0 (omega arith), (four-bytes (p .w) (omega (arith, b .0)), (four-bytes 0 (omega arith), (bytes-same (p .l - 32) 0 (omega arith), tt)))),
         ),
       ))
-      (rw (append-nil {A = ℕ} (replicate (p .l - 32) 0), length-replicate) (omega (arith, image-bits .1))) (line-body p k (k + 1) (codesOf 3 p 1))
+      (rw (append-nil {A = ℕ} (replicate (p .l - 32) 0), length-replicate) (omega (arith, image-room p good))) (line-body p k (k + 1) (codesOf 3 p 1))
 
 -- ---- all kinds
 

@@ -59,11 +59,11 @@ pub record Copy : Type 0 where
 abbrev pub RowCopy : Type 0
 RowCopy = List ℕ → ℕ → List ℕ → Copy
 
--- demand 2 for rows: of a line that stands there and fits the row, each sample is the one the rules name, high byte first, and later samples stay
+-- demand 2 for rows: of a line of counts that stands there and fits the row, each sample is the one the rules name, high byte first, and later samples stay
 abbrev pub Copies : RowCopy → Type 0
-Copies R = (bs : List ℕ) (k : ℕ) (p : Plan) (row : List ℕ) → Stands bs k p → dataCount (lineRecord p k bs) ≤ length row
+Copies R = (bs : List ℕ) (k : ℕ) (p : Plan) (row : List ℕ) → Stands bs k p → p .sort ≡ 0 → dataCount (lineRecord p k bs) ≤ length row
     → (R bs k row .answer ≡ Done (dataCount (lineRecord p k bs)))
-    × ((j : ℕ) → j < dataCount (lineRecord p k bs) → getD (R bs k row .row) j 0 ≡ sample (dataPixels 2 p (lineRecord p k bs)) j)
+    × ((j : ℕ) → j < dataCount (lineRecord p k bs) → getD (R bs k row .row) j 0 ≡ sample (dataPixels p (lineRecord p k bs)) j)
     × ((j : ℕ) → dataCount (lineRecord p k bs) ≤ j → getD (R bs k row .row) j 0 ≡ getD row j 0)
     × (length (R bs k row .row) ≡ length row)
 

@@ -13,7 +13,7 @@ use Rattle.digits.specs.Segments.{mantissaOf, exponentOf}
 use Rattle.decimal.specs.Scan.{written, decimalOf, numberIn}
 use Rattle.decimal.specs.Examples as decimal-examples
 use Rattle.fields.specs.Field.{fieldAt, fieldAs}
-use Rattle.plan.specs.Tables.{slotOf, otherCodes}
+use Rattle.plan.specs.Tables.{slotOf, otherCodes, sortOf}
 use Rattle.plan.specs.Plan.{totalOf, sumOf, runCounts, runLengths, firstLength, spotOf, spotFrom, codesOf, allZero, zeroPlan?, planGood, imageGood, firstCodes}
 use Rattle.plan.specs.Plan.{volumeGood, leaderGood, slotsGood}
 use Rattle.verdicts.specs.Tests.{firstFault, textAt}
@@ -107,7 +107,7 @@ due =
     ∷ [])
 
 pub p-table : answers ≡ due
-unfolding written decimalOf numberIn mantissaOf exponentOf twoAt fourAt placeOf fieldAt slotOf otherCodes totalOf sumOf runCounts runLengths
+unfolding written decimalOf numberIn mantissaOf exponentOf twoAt fourAt placeOf fieldAt slotOf otherCodes sortOf totalOf sumOf runCounts runLengths
     firstLength spotOf spotFrom codesOf firstCodes allZero zeroPlan? planGood imageGood volumeGood leaderGood slotsGood firstFault textAt bodyOf bodyTests
     imageRecord imageTests numbersTests agreeTests lineTests volumeRecord leaderRecord trailerTests planOf goodState walkOf judgeOf headerOf
     headerTests codesAre endedOf shortOf nextOf badStop

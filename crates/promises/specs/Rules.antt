@@ -94,6 +94,19 @@ facilityRecords p i (suc m) = slotRecords p i facilityDue ++ facilityRecords p (
 
 -- ---- image
 
+-- what an image's sort decides: the text at 429, bytes a group, the least bytes ahead of the pixels, the lines' second code byte
+pub record Sort : Type 0 where
+  pub text : String
+  pub group : ℕ
+  pub ahead : ℕ
+  pub code : ℕ
+
+-- the sorts by number: counts; complex samples, each two floats of four bytes; there is no other
+abbrev pub sortOf : ℕ → Sort
+sortOf zero = record { text = "IU2 "; group = 2; ahead = 192; code = 11 }
+sortOf (suc zero) = record { text = "C*8 "; group = 8; ahead = 412; code = 10 }
+sortOf (suc (suc i)) = record { text = ""; group = 0; ahead = 0; code = 0 }
+
 -- line k of an image of w pixels: line number, 1, and left fill, data and right fill whose ordinary sum is w
 pub record Line (w k : ℕ) (r : List ℕ) : Type 0 where
   pub number : fourAt r (placeOf 13) ≡ k
@@ -220,25 +233,26 @@ module _ (e : Edition) where
 
   -- ---- image
 
-  -- its first record: n lines of L bytes, each of w pixels in d bytes and a suffix of s
+  -- its first record: the sort, which the edition must have, and n lines of L bytes, each of w pixels in d bytes and a suffix of s
   pub record ImageDescriptor (r : List ℕ) (p : Plan) : Type 0 where
     pub is : Record 1 (Coded 50 192 18 (Is 18)) 720 r
     pub ab : Text r 13 "A "
-    pub sort : Text r 429 "IU2 "
+    pub known : p .sort ≤ e .sorts
+    pub sort : Text r 429 (sortOf (p .sort) .text)
     pub n : Numbered r 181 I6 1 999999 (p .n)
     pub L : Numbered r 187 I6 1 999999 (p .l)
-    pub group : Numbered r 225 I4 2 2 2
+    pub group : Numbered r 225 I4 (sortOf (p .sort) .group) (sortOf (p .sort) .group) (sortOf (p .sort) .group)
     pub channels : Numbered r 233 I4 1 1 1
     pub lines : Numbered r 237 I8 1 99999999 (p .n)
     pub w : Numbered r 249 I8 1 99999999 (p .w)
     pub d : Numbered r 281 I8 1 99999999 (p .d)
     pub s : Numbered r 289 I4 0 9999 (p .s)
-    pub paired : p .d ≡ 2 * p .w
-    pub room : 192 + p .d + p .s ≤ p .l
+    pub paired : p .d ≡ sortOf (p .sort) .group * p .w
+    pub room : sortOf (p .sort) .ahead + p .d + p .s ≤ p .l
 
   -- a line as it is due
   abbrev pub lineDue : Plan → Due
-  lineDue p = record { Codes = Coded 50 11 18 (Is 20); long = p .l; Holds = Line (p .w) }
+  lineDue p = record { Codes = Coded 50 (sortOf (p .sort) .code) 18 (Is 20); long = p .l; Holds = Line (p .w) }
 
   -- ---- files
 

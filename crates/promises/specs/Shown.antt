@@ -1,5 +1,5 @@
 -- What the page shows of an image, and what a directory counts, by the rules alone (document 01, "Lines, rows, sets"): no turn, state, budget or
--- refusal occurs here. Bytes a sample are a parameter `g`. Assumes nothing.
+-- refusal occurs here. Bytes a sample are those of the image's sort. Assumes nothing.
 use Prim.Native.Nat.{ℕ, suc, _+_, _-_, _*_, _≤_, _<_}
 use mathlib.Core.Path.{_≡_}
 use mathlib.Core.List.{List, []}
@@ -7,7 +7,7 @@ use lib.ListN.{length, getD, take, drop}
 use Rattle.words.specs.Words.{byteAt, fourAt, placeOf}
 use Rattle.decimal.specs.declared.Form.the-variants.{I8}
 use Rattle.plan.specs.declared.Plan.{Plan}
-use Rattle.promises.specs.Rules.{Record, Line}
+use Rattle.promises.specs.Rules.{Record, Line, sortOf}
 use Rattle.promises.specs.Newest.{Numbered, ImageDescriptor, lineDue}
 
 -- ---- lines
@@ -49,25 +49,29 @@ pub record Pixel (p : Plan) (k at : ℕ) : Type 0 where
   pub from : lineStart p k + before p ≤ at
   pub to : at < lineStart p k + before p + p .d
 
--- the data pixels of g bytes each skip the left fill: where they start in the file, and their bytes
-abbrev pub dataStart : ℕ → Plan → ℕ → List ℕ → ℕ
-dataStart g p k r = lineStart p k + before p + g * leftFill r
+-- bytes a sample, by the image's sort
+abbrev pub bytesOf : Plan → ℕ
+bytesOf p = sortOf (p .sort) .group
 
-abbrev pub dataPixels : ℕ → Plan → List ℕ → List ℕ
-dataPixels g p r = take (g * dataCount r) (drop (before p + g * leftFill r) r)
+-- the data pixels skip the left fill: where they start in the file, and their bytes
+abbrev pub dataStart : Plan → ℕ → List ℕ → ℕ
+dataStart p k r = lineStart p k + before p + bytesOf p * leftFill r
+
+abbrev pub dataPixels : Plan → List ℕ → List ℕ
+dataPixels p r = take (bytesOf p * dataCount r) (drop (before p + bytesOf p * leftFill r) r)
 
 -- sample j of two-byte pixels, high byte first
 abbrev pub sample : List ℕ → ℕ → ℕ
 sample px j = 256 * byteAt px (2 * j) + byteAt px (2 * j + 1)
 
--- the numbers of line k under a plan, of g bytes a sample: the start of its data pixels, its data count, its left fill
-abbrev pub LineNumbers : ℕ → Plan → ℕ → List ℕ → ℕ → ℕ → ℕ → Type 0
-LineNumbers g p k bs start count left =
-    (start ≡ dataStart g p k (lineRecord p k bs)) × (count ≡ dataCount (lineRecord p k bs)) × (left ≡ leftFill (lineRecord p k bs))
+-- the numbers of line k under a plan: the start of its data pixels, its data count, its left fill
+abbrev pub LineNumbers : Plan → ℕ → List ℕ → ℕ → ℕ → ℕ → Type 0
+LineNumbers p k bs start count left =
+    (start ≡ dataStart p k (lineRecord p k bs)) × (count ≡ dataCount (lineRecord p k bs)) × (left ≡ leftFill (lineRecord p k bs))
 
 -- what a view shows of line k: its numbers under the plan that the first record names
-abbrev pub LineShown : ℕ → List ℕ → ℕ → ℕ → ℕ → ℕ → Type 0
-LineShown g bs k start count left = (p : Plan) × Stands bs k p × LineNumbers g p k bs start count left
+abbrev pub LineShown : List ℕ → ℕ → ℕ → ℕ → ℕ → Type 0
+LineShown bs k start count left = (p : Plan) × Stands bs k p × LineNumbers p k bs start count left
 
 -- ---- sets
 

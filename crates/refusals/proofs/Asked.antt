@@ -6,9 +6,9 @@ use mathlib.Core.Logic.{_↔_, _⊎_, inl, inr}
 use mathlib.Core.List.{List}
 use mathlib.Core.Bool.{Bool, true, false, false≢true}
 use native.Mathlib.Omega.{arith}
-use lib.Dec.{ltb}
+use lib.Dec.{ltb, eqb}
 use lib.ListN.{length}
-use borrow.Author.Tests.{ltb-true, ltb-false, lt-ltb}
+use borrow.Author.Tests.{ltb-true, ltb-false, lt-ltb, eqb-true, eqb-false, eq-eqb, ne-eqb}
 use Rattle.words.specs.Tests.{pick, withinOf}
 use Rattle.words.specs.Words.{placeOf}
 use Rattle.words.specs.Answer.{bareRefusal, refusalAt, refusedAs}
@@ -24,7 +24,6 @@ use Rattle.fields.specs.declared.Field.{Field}
 use Rattle.fields.specs.declared.Field.the-variants as field
 use Rattle.fields.proofs.Laws as laws
 use Rattle.plan.specs.Tables.{rows}
-use Rattle.plan.specs.Plan.{group}
 use Rattle.turns.specs.declared.Stop.the-variants as stop
 use Rattle.walk.specs.State.{fresh, goodState}
 use Rattle.walk.specs.Said.{stopAs, beginningAs}
@@ -33,7 +32,7 @@ use Rattle.walk.specs.declared.State.{State}
 use Rattle.walk.specs.declared.Walked.{Walked}
 use Rattle.walk.specs.declared.Begun.{Begun}
 use Rattle.walk.specs.declared.Beginning.the-variants.{Fresh, Unknown}
-use Rattle.lines.specs.View.{viewOf}
+use Rattle.lines.specs.View.{viewOf, sortSeen}
 use Rattle.lines.specs.declared.View.{View}
 use Rattle.lines.specs.declared.View.the-variants as view
 use Rattle.copies.specs.Row.{copiedBy, copiedOf}
@@ -45,10 +44,10 @@ use Rattle.promises.proofs.Parts.{by-means}
 use Rattle.promises.proofs.Turns as turns
 use Rattle.promises.proofs.Counted.{bad-kept}
 use Rattle.promises.proofs.Eleven.{eleven}
-use Rattle.promises.proofs.LineNamed.{line-named, stands-shown}
+use Rattle.promises.proofs.LineNamed.{line-named, stands-shown, sort-seen}
 use Rattle.first_records.specs.StateRule.{AllowedState}
 use Rattle.first_records.proofs.StateRule.{state-rule}
-use Rattle.refusals.specs.Questions.{BeginRefuses, StateRefuses, CopyRefuses, row, FieldRefuses, unlisted, short, badly, byteOf, formOf}
+use Rattle.refusals.specs.Questions.{BeginRefuses, StateRefuses, CopyRefuses, sort, row, FieldRefuses, unlisted, short, badly, byteOf, formOf}
 use Rattle.refusals.specs.Questions as questions
 use Rattle.refusals.proofs.Said as said
 use Rattle.refusals.proofs.Viewed.{view-to, view-from}
@@ -91,32 +90,44 @@ state-exactly b st bs c cl ll x = (
     bad (inl g) h = absurd (h (state-rule st cl ll .0 g))
     bad (inr g) h = g
 
--- ---- 15: a row
+-- ---- 23 and 15: a row
 
 module _ (bs : List ℕ) (k m : ℕ) (x : Refusal) where
   copy-to : copiedOf bs k m ≡ copied.Refused x → CopyRefuses bs k m x
   unfolding copiedOf
-  copy-to e = go (viewOf group bs k) refl e
+  copy-to e = go (viewOf bs k) refl e
     where
-      shown : (start count left : ℕ) → viewOf group bs k ≡ view.Shown start count left → (b : Bool) → ltb m count ≡ b
+      counts : (start count left : ℕ) → viewOf bs k ≡ view.Shown start count left → sortSeen bs ≡ 0 → (b : Bool) → ltb m count ≡ b
           → pick b (copied.Refused (bareRefusal 15)) (copied.Done count) ≡ copied.Refused x → CopyRefuses bs k m x
-      shown start count left q true h f =
-          let (p, t, (a, c, l)) = line-named group bs k start count left .0 q in
+      counts start count left q z true h f =
+          let (p, t, (a, c, l)) = line-named bs k start count left .0 q in
           let r = ltb-true m count h in
-          row p t (omega (arith, c)) (sym cc)
-      shown start count left q false h f = absurd (let z : _≡_ {A = ℕ} 0 1 = cc in omega arith)
+          row p t (sym (sort-seen bs p (t .first)) ∙ z) (omega (arith, c)) (sym cc)
+      counts start count left q z false h f = absurd (let z : _≡_ {A = ℕ} 0 1 = cc in omega arith)
 
-      go : (v : View) → viewOf group bs k ≡ v → copiedBy v m ≡ copied.Refused x → CopyRefuses bs k m x
-      go (view.Shown start count left) q f = shown start count left q (ltb m count) refl f
+      shown : (start count left : ℕ) → viewOf bs k ≡ view.Shown start count left → (b : Bool) → eqb (sortSeen bs) 0 ≡ b
+          → pick b (pick (ltb m count) (copied.Refused (bareRefusal 15)) (copied.Done count)) (copied.Refused (bareRefusal 23)) ≡ copied.Refused x
+          → CopyRefuses bs k m x
+      shown start count left q true z f = counts start count left q (eqb-true (sortSeen bs) 0 z) (ltb m count) refl f
+      shown start count left q false z f =
+          let (p, t, n) = line-named bs k start count left .0 q in
+          sort p t (λ e. eqb-false (sortSeen bs) 0 z (sort-seen bs p (t .first) ∙ e)) (sym cc)
+
+      go : (v : View) → viewOf bs k ≡ v → copiedBy v (sortSeen bs) m ≡ copied.Refused x → CopyRefuses bs k m x
+      go (view.Shown start count left) q f = shown start count left q (eqb (sortSeen bs) 0) refl f
       go (view.Wait n) q f = absurd (let z : _≡_ {A = ℕ} 0 1 = cc in omega arith)
-      go (view.Refused r) q f = questions.view (view-to group bs k x (q ∙ ap view.Refused cc))
+      go (view.Refused r) q f = questions.view (view-to bs k x (q ∙ ap view.Refused cc))
 
   copy-from : CopyRefuses bs k m x → copiedOf bs k m ≡ copied.Refused x
   unfolding copiedOf
-  copy-from (questions.view y) = ap (λ (v : View). copiedBy v m) (view-from group bs k x y)
-  copy-from (row p t h e) =
-      ap (λ (v : View). copiedBy v m) (stands-shown group bs k p t)
-      ∙ ap (λ (b : Bool). pick b (copied.Refused (bareRefusal 15)) (copied.Done (dataCount (lineRecord p k bs)))) (lt-ltb m (dataCount (lineRecord p k bs)) h)
+  copy-from (questions.view y) = ap (λ (v : View). copiedBy v (sortSeen bs) m) (view-from bs k x y)
+  copy-from (sort p t n e) =
+      ap (λ (v : View). copiedBy v (sortSeen bs) m) (stands-shown bs k p t)
+      ∙ (simp (ne-eqb (sortSeen bs) 0 (λ z. n (sym (sort-seen bs p (t .first)) ∙ z))))
+      ∙ ap copied.Refused (sym e)
+  copy-from (row p t z h e) =
+      ap (λ (v : View). copiedBy v (sortSeen bs) m) (stands-shown bs k p t)
+      ∙ (simp (eq-eqb (sortSeen bs) 0 (sort-seen bs p (t .first) ∙ z), lt-ltb m (dataCount (lineRecord p k bs)) h))
       ∙ ap copied.Refused (sym e)
 
 pub copy-exactly : (bs : List ℕ) (k m : ℕ) (x : Refusal) → (copiedAs (copiedOf bs k m) ≡ refusedAs x) ↔ CopyRefuses bs k m x

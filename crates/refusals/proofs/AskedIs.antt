@@ -24,8 +24,9 @@ use Rattle.turns.specs.Turn.{judgeOf}
 use Rattle.turns.specs.declared.Stop.the-variants.{Refused}
 use Rattle.turns.specs.declared.Turn.the-variants.{Halt}
 use Rattle.turns.proofs.TurnLaws.{one-total}
-use Rattle.promises.specs.Rules.{Kind, volume, leader, image, trailer, kindNumber, Is}
+use Rattle.promises.specs.Rules.{Kind, volume, leader, image, trailer, kindNumber, Is, sortOf}
 use Rattle.promises.proofs.Parts.{CodedBy}
+use Rattle.promises.proofs.Sorts.{code-same}
 use Rattle.promises.proofs.AnyEdition.{Same}
 use Rattle.promises.proofs.BodyIs.{Long}
 use Rattle.promises.proofs.Runs.{expand, expand-length, rows-expand, rows-same, spot-at}
@@ -50,7 +51,8 @@ asked-runs : (kind : Kind) (p : Plan) → length (p .counts) ≡ rows → length
 unfolding runCounts runLengths codesOf otherCodes
 asked-runs volume p c l = refl
 asked-runs leader p c l = leader-runs p c l
-asked-runs image p c l = sym (append-nil _)
+asked-runs image p c l =
+    ap (λ (x : ℕ). replicate (p .n) (asked 50 x 18 (Is 20) (p .l) (lineBody (p .w)))) (sym (code-same (p .sort))) ∙ sym (append-nil _)
 asked-runs trailer p c l = refl
 
 asked-length : (kind : Kind) (p : Plan) → length (p .counts) ≡ rows → length (p .lengths) ≡ rows
@@ -67,14 +69,15 @@ unfolding codesOf slotOf
 leader-same p q s = rows-same (askedBy leader p) (p .counts) (p .lengths) (q .counts) (q .lengths) rows 0 s
 
 -- the lines of an image, by the numbers that they hang on
-line-of : ℕ → ℕ → ℕ → List Asked
-line-of n l w = replicate n (asked 50 11 18 (Is 20) l (lineBody w))
+line-of : ℕ → ℕ → ℕ → ℕ → List Asked
+line-of n l w sort = replicate n (asked 50 (sortOf sort .code) 18 (Is 20) l (lineBody w))
 
 pub same-asked : (kind : Kind) (p q : Plan) → Same kind p q → laterAsked kind p ≡ laterAsked kind q
 unfolding line-of
 same-asked volume p q s = ap (λ (m : ℕ). replicate m (asked 219 192 18 (Is 18) 360 (pointerBody m)) ++ (asked 18 192 18 (Is 18) 360 nothing ∷ [])) s
 same-asked leader p q s = leader-same p q s
-same-asked image p q s = ap (λ (n : ℕ). line-of n (p .l) (p .w)) (s .0) ∙ ap₂ (λ (l w : ℕ). line-of (q .n) l w) (s .1) (s .2)
+same-asked image p q s =
+    ap₂ (λ (n sort : ℕ). line-of n (p .l) (p .w) sort) (s .0) (s .5) ∙ ap₂ (λ (l w : ℕ). line-of (q .n) l w (q .sort)) (s .1) (s .2)
 same-asked trailer p q s = refl
 
 -- any record, for a place behind the last

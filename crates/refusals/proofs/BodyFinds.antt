@@ -1,7 +1,8 @@
 -- The tests of each record's body find the first of the rules that `Refusals` writes for it: tables row by row, the image's agreements from the numbers
 -- that stand before them.
 use Prim.Native.Nat.{ℕ, zero, suc, _+_, _*_, _≤_}
-use mathlib.Core.Path.{_≡_, refl, sym, ap, _∙_, subst}
+use mathlib.Core.Path.{_≡_, refl, sym, ap, ap₂, _∙_, subst}
+use mathlib.Core.Logic.{_↔_}
 use mathlib.Core.List.{List, [], _∷_, _++_}
 use mathlib.Core.Bool.{Bool, true, false, false≢true}
 use native.Mathlib.Omega.{arith}
@@ -14,6 +15,7 @@ use Rattle.words.specs.Tests.{bothOf}
 use Rattle.words.specs.Words.{fourAt, placeOf}
 use Rattle.words.proofs.Laws.{both-l, both-r}
 use Rattle.words.proofs.Table.{every}
+use Rattle.decimal.specs.Text.{bytes}
 use Rattle.decimal.specs.Forms.{widthOf, shapeOf}
 use Rattle.decimal.specs.declared.Form.{Form}
 use Rattle.decimal.specs.declared.Form.the-variants.{I4, I6, I8, I16, F8d3, F16d7, E20d13}
@@ -21,7 +23,7 @@ use Rattle.decimal.specs.declared.Shape.the-variants.{Whole}
 use Rattle.decimal.specs.declared.Written.the-variants.{Number as Written}
 use Rattle.fields.specs.Listed.{table}
 use Rattle.fields.specs.declared.Listed.{Listed}
-use Rattle.plan.specs.Tables.{slotOf}
+use Rattle.plan.specs.Tables.{slotOf, sortOf as sortOf′}
 use Rattle.plan.specs.Plan.{firstLength}
 use Rattle.plan.specs.declared.Plan.{Plan}
 use Rattle.verdicts.specs.Tests.{firstFault, textAt, each, numberOf}
@@ -31,15 +33,18 @@ use Rattle.verdicts.specs.declared.Verdict.the-variants.{Fine}
 use Rattle.volume.specs.Volume.{classText, volumeNumbers, volumeTests, pointerNumbers, pointerTests, volumeRecord}
 use Rattle.leader.specs.Leader.{pairs, countAt, pairTests, leaderTests, listedTests, fieldsTests, leaderRecord}
 use Rattle.leader.specs.declared.Pair as declared
-use Rattle.image.specs.Image.{imageNumbers, agreeTests, agreements, imageTests, lineTests, imageRecord}
+use Rattle.image.specs.Image.{sortIn, imageNumbers, agreeTests, agreements, imageTests, lineTests, imageRecord}
+use Rattle.image.proofs.ImageLaws.{sort-in}
 use Rattle.bodies.specs.Bodies.{trailerTests, bodyTests, bodyOf}
-use Rattle.promises.specs.Rules.{Kind, volume, leader, image, trailer, kindNumber, classOf}
-use Rattle.promises.proofs.Parts.{field-reads}
+use Rattle.promises.specs.Rules.{Kind, volume, leader, image, trailer, kindNumber, classOf, sortOf}
+use Rattle.promises.specs.Newest.{Numbered}
+use Rattle.promises.proofs.Parts.{field-reads, text-is}
+use Rattle.promises.proofs.Sorts.{group-same, ahead-same, text-same, text-short, sort-is}
 use Rattle.promises.proofs.BodyIs.{Long, class-text, other-volume, other-leader, of-line}
-use Rattle.refusals.specs.Refusals.{Rule, number, listed, pair, SaysNumber, firstBody, pointerBody, summaryBody, mapBody, lineBody}
+use Rattle.refusals.specs.Refusals.{Rule, number, listed, pair, SaysNumber, SortIs, firstBody, pointerBody, summaryBody, mapBody, lineBody}
 use Rattle.refusals.specs.Refusals.{nothing, agreement}
 use Rattle.refusals.specs.Refusals as rules
-use Rattle.refusals.proofs.Finds.{Finds, finds-none, finds-then, first-then, finds-each, rulesOf, Every}
+use Rattle.refusals.proofs.Finds.{Finds, finds-none, finds-then, first-then, finds-each, rulesOf, Every, Alike, alike-self, alike-behind, finds-alike}
 use Rattle.refusals.proofs.PartFinds.{exact, text-finds, listed-finds, number-finds, pair-finds}
 
 -- ---- tables
@@ -142,62 +147,144 @@ leader-finds : (r : List ℕ) → length r ≡ 720 → Finds (firstFault (leader
 unfolding leaderTests firstFault placeOf slotOf pair? inside? whole?
 leader-finds r long = text-finds r 13 "A " _ _ (omega arith) (λ e. pairs-find r 720 long pairs refl)
 
+-- the rules of an image's number fields behind the group, from the group's range on, and all of them
+abbrev laterFields : List ℕ → List Rule
+laterFields r =
+    number r 233 I4 1 1 ++ (number r 237 I8 1 99999999 ++ (number r 249 I8 1 99999999 ++ (number r 281 I8 1 99999999 ++ number r 289 I4 0 9999)))
+
+abbrev fieldsAs : List ℕ → Type 0 → List Rule
+fieldsAs r G = rules.rule 7 225 G ∷ laterFields r
+
+abbrev imageFields : List ℕ → List Rule
+imageFields r = number r 181 I6 1 999999 ++ (number r 187 I6 1 999999 ++ (rules.group r ++ laterFields r))
+
 -- what a field says is the number that is read
 module _ (r : List ℕ) (long : length r ≡ 720) where
   reads : (byte : ℕ) (k : Form) → placeOf byte + widthOf k ≤ 720 → {n : ℕ} → SaysNumber r byte k n → numberAt r byte k ≡ n
   reads byte k h {n} s = ap numberOf (field-reads r byte k (omega (arith, long)) (Written (pos n) (pos 0)) s)
 
-  -- the agreements, of numbers that the fields before them say
-  agree-find : (n l m w d s : ℕ) → SaysNumber r 181 I6 n → SaysNumber r 187 I6 l → SaysNumber r 237 I8 m → SaysNumber r 249 I8 w → SaysNumber r 281 I8 d
-      → SaysNumber r 289 I4 s → Finds (firstFault (agreements r)) (rules.agreements r)
-  unfolding agreeTests firstFault placeOf
-  agree-find n l m w d s hn hl hm hw hd hs =
-      let rn = reads 181 I6 (omega arith) hn in
-      let rl = reads 187 I6 (omega arith) hl in
-      let rm = reads 237 I8 (omega arith) hm in
-      let rw′ = reads 249 I8 (omega arith) hw in
-      let rd = reads 281 I8 (omega arith) hd in
-      let rs = reads 289 I4 (omega arith) hs in
-      exact (eqb (numberAt r 181 I6) (numberAt r 237 I8)) _ (agreement ((n : ℕ) × SaysNumber r 181 I6 n × SaysNumber r 237 I8 n)) _
-      (λ e. (n, hn, subst (SaysNumber r 237 I8) (sym rm ∙ sym (eqb-true _ _ e) ∙ rn) hm))
-      (λ h. eq-eqb _ _ (reads 181 I6 (omega arith) (h .1) ∙ sym (reads 237 I8 (omega arith) (h .2))))
-      (λ e.
-      exact (eqb (numberAt r 281 I8) (2 * numberAt r 249 I8)) _ (agreement ((w : ℕ) × SaysNumber r 249 I8 w × SaysNumber r 281 I8 (2 * w))) _
-      (λ e. (w, hw, subst (SaysNumber r 281 I8) (sym rd ∙ eqb-true _ _ e ∙ ap (λ (x : ℕ). 2 * x) rw′) hd))
-      (λ h. eq-eqb _ _ (reads 281 I8 (omega arith) (h .2) ∙ ap (λ (x : ℕ). 2 * x) (sym (reads 249 I8 (omega arith) (h .1)))))
-      (λ e.
-      exact (leb (192 + numberAt r 281 I8 + numberAt r 289 I4) (numberAt r 187 I6)) _
-      (agreement ((l : ℕ) × (d : ℕ) × (s : ℕ) × SaysNumber r 187 I6 l × SaysNumber r 281 I8 d × SaysNumber r 289 I4 s × (192 + d + s ≤ l))) _
-      (λ e. (l, d, s, hl, hd, hs, (let h = leb-true (192 + numberAt r 281 I8 + numberAt r 289 I4) (numberAt r 187 I6) e in omega (arith, rl, rd, rs))))
-      (λ h.
-      let a = reads 187 I6 (omega arith) (h .3) in
-      let b = reads 281 I8 (omega arith) (h .4) in
-      let c = reads 289 I4 (omega arith) (h .5) in
-      let room = h .6 in
-      le-leb (192 + numberAt r 281 I8 + numberAt r 289 I4) (numberAt r 187 I6) (omega (arith, a, b, c, room)))
-      (λ e. finds-none)))
+  -- ---- the sort that the text names is the one that is found
+
+  sort-to : textAt r 428 (sortOf′ (sortIn r) .text) ≡ true → SortIs r (sortIn r)
+  unfolding placeOf
+  sort-to e =
+      record {
+        known = sort-in r;
+        text = text-is r 428 (bytes (sortOf (sortIn r) .text)) (omega (arith, text-short (sortIn r), long)) .0
+            (subst (λ (t : List ℕ). textAt r 428 t ≡ true) (text-same (sortIn r) (sort-in r)) e);
+      }
+
+  sort-text : (i : ℕ) → SortIs r i → textAt r 428 (sortOf′ i .text) ≡ true
+  unfolding placeOf
+  sort-text i h =
+      subst (λ (t : List ℕ). textAt r 428 t ≡ true) (sym (text-same i (h .known)))
+      (text-is r 428 (bytes (sortOf i .text)) (omega (arith, text-short i, long)) .1 (h .text))
+
+  sort-one : (i : ℕ) → SortIs r i → sortIn r ≡ i
+  unfolding placeOf
+  sort-one i h = sort-is r i (h .known) (sort-text i h)
+
+  sort-from : ((i : ℕ) × SortIs r i) → textAt r 428 (sortOf′ (sortIn r) .text) ≡ true
+  sort-from (i, h) = subst (λ (j : ℕ). textAt r 428 (sortOf′ j .text) ≡ true) (sym (sort-one i h)) (sort-text i h)
+
+  -- the sort's numbers, in the rules' table and in the plan's
+  group-of : (i : ℕ) → SortIs r i → sortOf′ (sortIn r) .group ≡ sortOf i .group
+  group-of i h = ap (λ (j : ℕ). sortOf′ j .group) (sort-one i h) ∙ group-same i
+
+  ahead-of : (i : ℕ) → SortIs r i → sortOf′ (sortIn r) .ahead ≡ sortOf i .ahead
+  ahead-of i h = ap (λ (j : ℕ). sortOf′ j .ahead) (sort-one i h) ∙ ahead-same i
+
+  module _ (has : SortIs r (sortIn r)) where
+    -- the bytes a group, within the sort's own range
+    group-alike : ((n : ℕ) × Numbered r 225 I4 (sortOf′ (sortIn r) .group) (sortOf′ (sortIn r) .group) n)
+        ↔ ((i : ℕ) × SortIs r i × Numbered r 225 I4 (sortOf i .group) (sortOf i .group) (sortOf i .group))
+    group-alike = (
+      λ (n, h).
+          let e : n ≡ sortOf (sortIn r) .group = let a = h .least in let b = h .most in omega (arith, group-of (sortIn r) has) in (
+            sortIn r,
+            has,
+            record { says = subst (SaysNumber r 225 I4) e (h .says); least = omega arith; most = omega arith },
+          ),
+      λ (i, s, h).
+          (sortOf i .group, record { says = h .says; least = omega (arith, group-of i s); most = omega (arith, group-of i s) }),
+    )
+
+    -- the agreements, of numbers that the fields before them say
+    agree-find : (n l m w d s : ℕ) → SaysNumber r 181 I6 n → SaysNumber r 187 I6 l → SaysNumber r 237 I8 m → SaysNumber r 249 I8 w → SaysNumber r 281 I8 d
+        → SaysNumber r 289 I4 s → Finds (firstFault (agreements r)) (rules.agreements r)
+    unfolding agreeTests firstFault placeOf
+    agree-find n l m w d s hn hl hm hw hd hs =
+        let j = sortIn r in
+        let g = sortOf′ j .group in
+        let ahead = sortOf′ j .ahead in
+        let rn = reads 181 I6 (omega arith) hn in
+        let rl = reads 187 I6 (omega arith) hl in
+        let rm = reads 237 I8 (omega arith) hm in
+        let rw′ = reads 249 I8 (omega arith) hw in
+        let rd = reads 281 I8 (omega arith) hd in
+        let rs = reads 289 I4 (omega arith) hs in
+        exact (eqb (numberAt r 181 I6) (numberAt r 237 I8)) _ (agreement ((n : ℕ) × SaysNumber r 181 I6 n × SaysNumber r 237 I8 n)) _
+        (λ e. (n, hn, subst (SaysNumber r 237 I8) (sym rm ∙ sym (eqb-true _ _ e) ∙ rn) hm))
+        (λ h. eq-eqb _ _ (reads 181 I6 (omega arith) (h .1) ∙ sym (reads 237 I8 (omega arith) (h .2))))
+        (λ e.
+        exact (eqb (numberAt r 281 I8) (g * numberAt r 249 I8)) _
+        (agreement ((i : ℕ) × (w : ℕ) × SortIs r i × SaysNumber r 249 I8 w × SaysNumber r 281 I8 (sortOf i .group * w))) _
+        (λ e. (j, w, has, hw, subst (SaysNumber r 281 I8) (sym rd ∙ eqb-true _ _ e ∙ ap₂ (λ (i x : ℕ). i * x) (group-of j has) rw′) hd))
+        (λ (i, x, si, hx, hy). eq-eqb _ _ (reads 281 I8 (omega arith) hy ∙ ap₂ (λ (i x : ℕ). i * x) (sym (group-of i si))
+        (sym (reads 249 I8 (omega arith) hx))))
+        (λ e.
+        exact (leb (ahead + numberAt r 281 I8 + numberAt r 289 I4) (numberAt r 187 I6)) _
+        (agreement ((i : ℕ) × (l : ℕ) × (d : ℕ) × (s : ℕ) × SortIs r i × SaysNumber r 187 I6 l × SaysNumber r 281 I8 d × SaysNumber r 289 I4 s
+        × (sortOf i .ahead + d + s ≤ l))) _
+        (λ e.
+        let h = leb-true (ahead + numberAt r 281 I8 + numberAt r 289 I4) (numberAt r 187 I6) e in
+        (j, l, d, s, has, hl, hd, hs, omega (arith, rl, rd, rs, ahead-of j has, h)))
+        (λ (i, l′, d′, s′, si, a′, b′, c′, room).
+        let a = reads 187 I6 (omega arith) a′ in
+        let b = reads 281 I8 (omega arith) b′ in
+        let c = reads 289 I4 (omega arith) c′ in
+        le-leb (ahead + numberAt r 281 I8 + numberAt r 289 I4) (numberAt r 187 I6) (omega (arith, a, b, c, room, ahead-of i si)))
+        (λ e. finds-none)))
+
+    -- the group that the sort asks for, in the words of the rules
+    abbrev g : ℕ
+    g = sortOf′ (sortIn r) .group
+
+    abbrev sortedGroup : Type 0
+    sortedGroup = (i : ℕ) × SortIs r i × Numbered r 225 I4 (sortOf i .group) (sortOf i .group) (sortOf i .group)
+
+    -- the number fields' rules, the group's by the sort
+    numbers-alike : Alike (rulesOf (numberRules r 720 long) (imageNumbers (sortIn r))) (imageFields r)
+    numbers-alike =
+        let behind : Alike (fieldsAs r (((n : ℕ) × Numbered r 225 I4 g g n))) (fieldsAs r sortedGroup) =
+        ((group-alike, refl, refl), alike-self (laterFields r)) in
+        alike-behind (number r 181 I6 1 999999 ++ (number r 187 I6 1 999999 ++ (rules.rule 6 225 (rules.SomeNumber r 225 I4) ∷ [])))
+        (fieldsAs r ((n : ℕ) × Numbered r 225 I4 g g n)) (fieldsAs r sortedGroup) behind
+
+    fields-find : Finds (firstFault (numbersTests r (imageNumbers (sortIn r)) ++ agreements r)) (imageFields r ++ rules.agreements r)
+    unfolding placeOf numbered? inside? whole?
+    fields-find =
+        let js = imageNumbers (sortIn r) in
+        let f = finds-alike (rulesOf (numberRules r 720 long) js) (imageFields r) numbers-alike (numbers-find r 720 long js refl) in
+        subst (λ (v : Verdict). Finds v (imageFields r ++ rules.agreements r)) (sym (first-then (numbersTests r js) (agreements r)))
+        (finds-then (firstFault (numbersTests r js)) (firstFault (agreements r)) (imageFields r) (rules.agreements r) f
+        (λ q.
+        let h = f .fine q in
+        let h1 = h .1 .1 in
+        let h4 = h1 .1 .1 .1 .1 .1 .1 in
+        let h5 = h4 .1 .1 in
+        let h6 = h5 .1 .1 in
+        let h7 = h6 .1 .1 in
+        agree-find (h .1 .0 .0) (h1 .1 .0 .0) (h4 .1 .0 .0) (h5 .1 .0 .0) (h6 .1 .0 .0) (h7 .1 .0 .0) (h .1 .0 .1 .says) (h1 .1 .0 .1 .says)
+        (h4 .1 .0 .1 .says) (h5 .1 .0 .1 .says) (h6 .1 .0 .1 .says) (h7 .1 .0 .1 .says)))
 
   image-finds : Finds (firstFault (imageTests r)) (firstBody image r)
-  unfolding imageTests firstFault placeOf numbered? inside? whole?
+  unfolding imageTests firstFault placeOf
   image-finds =
       text-finds r 13 "A " _ _ (omega arith)
       (λ e.
-      text-finds r 429 "IU2 " _ _ (omega arith)
-      (λ e.
-      let f = numbers-find r 720 long imageNumbers refl in
-      subst (λ (v : Verdict). Finds v (rulesOf (numberRules r 720 long) imageNumbers ++ rules.agreements r))
-      (sym (first-then (numbersTests r imageNumbers) (agreements r)))
-      (finds-then (firstFault (numbersTests r imageNumbers)) (firstFault (agreements r)) (rulesOf (numberRules r 720 long) imageNumbers)
-      (rules.agreements r) f
-      (λ q.
-      let h = f .fine q in
-      let h1 = h .1 .1 in
-      let h4 = h1 .1 .1 .1 .1 .1 .1 in
-      let h5 = h4 .1 .1 in
-      let h6 = h5 .1 .1 in
-      let h7 = h6 .1 .1 in
-      agree-find (h .1 .0 .0) (h1 .1 .0 .0) (h4 .1 .0 .0) (h5 .1 .0 .0) (h6 .1 .0 .0) (h7 .1 .0 .0) (h .1 .0 .1 .says) (h1 .1 .0 .1 .says)
-      (h4 .1 .0 .1 .says) (h5 .1 .0 .1 .says) (h6 .1 .0 .1 .says) (h7 .1 .0 .1 .says)))))
+      exact (textAt r 428 (sortOf′ (sortIn r) .text)) _ (rules.rule 8 429 ((i : ℕ) × SortIs r i)) _ (λ e. (sortIn r, sort-to e)) sort-from
+      (λ e. fields-find (sort-to e)))
 
 -- ---- the records behind the first
 

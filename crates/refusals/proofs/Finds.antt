@@ -1,7 +1,7 @@
 -- What a list of tests finds first is the first rule broken: one test beside one rule, and lists one after the other.
 use Prim.Native.Nat.{ℕ, _+_}
 use mathlib.Core.Path.{_≡_, refl, sym, ap, _∙_, subst}
-use mathlib.Core.Logic.{inl, inr}
+use mathlib.Core.Logic.{_↔_, inl, inr}
 use mathlib.Core.List.{List, [], _∷_, _++_}
 use mathlib.Core.Bool.{Bool, true, false}
 use native.Mathlib.Omega.{arith}
@@ -114,3 +114,36 @@ finds-each g h [] f = finds-none
 finds-each g h (x ∷ xs) f =
     subst (λ (v : Verdict). Finds v (h x ++ rulesOf h xs)) (sym (first-then (g x) (each g xs)))
     (finds-then (firstFault (g x)) (firstFault (each g xs)) (h x) (rulesOf h xs) (f .0) (λ e. finds-each g h xs (f .1)))
+
+-- ---- rules that hold alike, one by one, with the same refusals
+
+abbrev pub Alike : List Rule → List Rule → Type 0
+Alike [] [] = Unit {0}
+Alike [] (y ∷ ys) = ⊥
+Alike (x ∷ xs) [] = ⊥
+Alike (x ∷ xs) (y ∷ ys) = ((x .Holds ↔ y .Holds) × (x .number ≡ y .number) × (x .byte ≡ y .byte)) × Alike xs ys
+
+pub alike-self : (xs : List Rule) → Alike xs xs
+alike-self [] = tt
+alike-self (x ∷ xs) = (((λ h. h, λ h. h), refl, refl), alike-self xs)
+
+-- behind rules in common
+pub alike-behind : (zs xs ys : List Rule) → Alike xs ys → Alike (zs ++ xs) (zs ++ ys)
+alike-behind [] xs ys a = a
+alike-behind (z ∷ zs) xs ys a = (((λ h. h, λ h. h), refl, refl), alike-behind zs xs ys a)
+
+alike-hold : (xs ys : List Rule) → Alike xs ys → AllHold xs → AllHold ys
+alike-hold [] [] a h = tt
+alike-hold [] (y ∷ ys) a h = absurd a
+alike-hold (x ∷ xs) [] a h = absurd a
+alike-hold (x ∷ xs) (y ∷ ys) a h = (a .0 .0 .0 (h .0), alike-hold xs ys (a .1) (h .1))
+
+alike-wrong : (xs ys : List Rule) (m q : ℕ) → Alike xs ys → FirstWrong xs m q → FirstWrong ys m q
+alike-wrong [] [] m q a w = w
+alike-wrong [] (y ∷ ys) m q a w = absurd a
+alike-wrong (x ∷ xs) [] m q a w = absurd a
+alike-wrong (x ∷ xs) (y ∷ ys) m q a (inl w) = inl (λ h. w .0 (a .0 .0 .1 h), w .1 ∙ a .0 .1, w .2 ∙ ap placeOf (a .0 .2))
+alike-wrong (x ∷ xs) (y ∷ ys) m q a (inr w) = inr (a .0 .0 .0 (w .0), alike-wrong xs ys m q (a .1) (w .1))
+
+pub finds-alike : {v : Verdict} (xs ys : List Rule) → Alike xs ys → Finds v xs → Finds v ys
+finds-alike xs ys a f = record { fine = λ e. alike-hold xs ys a (f .fine e); fault = λ m q e. alike-wrong xs ys m q a (f .fault m q e) }

@@ -37,7 +37,7 @@ refusal-said y x e =
     ∙ ap₂ (λ (r p : ℕ). record { number = x .number; «record» = r; place = p }) b c
 
 -- an answer of another word is no refusal
-other : {a : Answer} (x : Refusal) → (a .word ≡ refused → ⊥) → a ≡ refusedAs x → ⊥
+pub other : {a : Answer} (x : Refusal) → (a .word ≡ refused → ⊥) → a ≡ refusedAs x → ⊥
 other x n e = n (ap (λ (b : Answer). b .word) e)
 
 pub said-refused : (y : Stop) (x : Refusal) → stopAs y ≡ refusedAs x → y ≡ stop.Refused x

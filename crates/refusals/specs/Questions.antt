@@ -1,6 +1,6 @@
 -- Refusals of what is asked beside the walk (document 01, "Refusal numbers" and "Lines, rows, sets"): to begin (1), with a state (11), a set against its
--- directory (12), a line of an image held from byte 0 (13), a listed field (14), a row of samples (15); each with what goes before it, in the words of `Rules`,
--- `Shown` and `Refusals`. No test of the code occurs here. Assumes nothing.
+-- directory (12), a line of an image held from byte 0 (13), a listed field (14), a row of samples (15, and 23 of document 02, No. 2); each with what goes
+-- before it, in the words of `Rules`, `Shown` and `Refusals`. No test of the code occurs here. Assumes nothing.
 use Prim.Native.Nat.{ℕ, suc, _+_, _-_, _*_, _≤_, _<_}
 use mathlib.Core.Path.{_≡_}
 use mathlib.Core.List.{List, [], _∷_, _++_}
@@ -48,8 +48,10 @@ pub data ViewRefuses (bs : List ℕ) (k : ℕ) (x : Refusal) : Type 1 where
 -- the row copy of line k to a row of m samples
 pub data CopyRefuses (bs : List ℕ) (k m : ℕ) (x : Refusal) : Type 1 where
   view : ViewRefuses bs k x → CopyRefuses bs k m x
+  -- 23: the samples are no counts
+  sort : (p : Plan) → Stands bs k p → (p .sort ≡ 0 → ⊥) → x ≡ bareRefusal 23 → CopyRefuses bs k m x
   -- 15, last: the row is shorter than the line's data pixels
-  row : (p : Plan) → Stands bs k p → m < dataCount (lineRecord p k bs) → x ≡ bareRefusal 15 → CopyRefuses bs k m x
+  row : (p : Plan) → Stands bs k p → p .sort ≡ 0 → m < dataCount (lineRecord p k bs) → x ≡ bareRefusal 15 → CopyRefuses bs k m x
 
 -- the pointer's record says that count
 abbrev pub Counted : List ℕ → ℕ → Type 0

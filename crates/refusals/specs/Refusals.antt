@@ -15,7 +15,8 @@ use Rattle.decimal.specs.declared.Form.{Form}
 use Rattle.decimal.specs.declared.Form.the-variants.{I4, I6, I8, I16, F8d3, F16d7, E20d13}
 use Rattle.decimal.specs.declared.Written.the-variants.{Number, Blank}
 use Rattle.plan.specs.declared.Plan.{Plan}
-use Rattle.promises.specs.Rules.{Kind, volume, leader, image, trailer, Text, Coded, Is, Any, Follow, concat, classOf}
+use Rattle.promises.specs.Edition.{newest}
+use Rattle.promises.specs.Rules.{Kind, volume, leader, image, trailer, Text, Coded, Is, Any, Follow, concat, classOf, sortOf}
 use Rattle.promises.specs.Newest.{Says, Numbered, Readable, First, promised}
 
 -- ==== a rule and its refusal
@@ -111,12 +112,25 @@ facilities r byte (suc m) = pair r byte I8 0 1 12 99999999 ++ facilities r (byte
 abbrev pub nothing : ℕ → List ℕ → List Rule
 nothing k r = []
 
--- an image's agreements: both line counts equal; d = 2w; 192 + d + s at most L
+-- the text at 429 is that of sort i, which there is
+pub record SortIs (r : List ℕ) (i : ℕ) : Type 0 where
+  pub known : i ≤ newest .sorts
+  pub text : Text r 429 (sortOf i .text)
+
+-- the bytes a group: 7 where they are not those of the sort
+abbrev pub group : List ℕ → List Rule
+group r =
+    rule 6 225 (SomeNumber r 225 I4)
+    ∷ rule 7 225 ((i : ℕ) × SortIs r i × Numbered r 225 I4 (sortOf i .group) (sortOf i .group) (sortOf i .group))
+    ∷ []
+
+-- an image's agreements: both line counts equal; d is a group for each pixel; the sort's bytes ahead, d and s at most L
 abbrev pub agreements : List ℕ → List Rule
 agreements r =
     agreement ((n : ℕ) × SaysNumber r 181 I6 n × SaysNumber r 237 I8 n)
-    ∷ agreement ((w : ℕ) × SaysNumber r 249 I8 w × SaysNumber r 281 I8 (2 * w))
-    ∷ agreement ((l : ℕ) × (d : ℕ) × (s : ℕ) × SaysNumber r 187 I6 l × SaysNumber r 281 I8 d × SaysNumber r 289 I4 s × (192 + d + s ≤ l))
+    ∷ agreement ((i : ℕ) × (w : ℕ) × SortIs r i × SaysNumber r 249 I8 w × SaysNumber r 281 I8 (sortOf i .group * w))
+    ∷ agreement ((i : ℕ) × (l : ℕ) × (d : ℕ) × (s : ℕ) × SortIs r i × SaysNumber r 187 I6 l × SaysNumber r 281 I8 d × SaysNumber r 289 I4 s
+    × (sortOf i .ahead + d + s ≤ l))
     ∷ []
 
 -- a first record
@@ -129,10 +143,10 @@ firstBody leader r =
     ++ (slot r 205 ++ (slot r 217 ++ (slot r 229 ++ (noSlot r 241 ++ (slot r 253 ++ (noSlots r 265 8 ++ facilities r 421 11)))))))
 firstBody image r =
     text r 13 "A "
-    ∷ text r 429 "IU2 "
+    ∷ rule 8 429 ((i : ℕ) × SortIs r i)
     ∷ number r 181 I6 1 999999
     ++ (number r 187 I6 1 999999
-    ++ (number r 225 I4 2 2
+    ++ (group r
     ++ (number r 233 I4 1 1
     ++ (number r 237 I8 1 99999999
     ++ (number r 249 I8 1 99999999
@@ -201,7 +215,7 @@ facilitiesAsked p i (suc m) =
 
 -- a line of an image
 abbrev pub lineAsked : Plan → Asked
-lineAsked p = asked 50 11 18 (Is 20) (p .l) (lineBody (p .w))
+lineAsked p = asked 50 (sortOf (p .sort) .code) 18 (Is 20) (p .l) (lineBody (p .w))
 
 -- what follows the first record: pointers and one text; slots in slot order and facilities; lines; nothing
 abbrev pub laterAsked : Kind → Plan → List Asked

@@ -7,6 +7,7 @@ ghost use mathlib.Core.Path.{_≡_};
 ghost use Prim.Native.Nat.{_+_, _*_, _≤_};
 ghost use lib.ListN.{length};
 ghost use Rattle.samples.specs.Samples.{isComplex, groupOf, clipped, patternAt, standsAt, patternedBy, floated, sampledBy, onPower, poweredBy};
+ghost use Rattle.samples.specs.Asked.{patternOf, sampleOf, powerOf};
 
 // The number of the complex sort; 0 is counts.
 pub const COMPLEX: u64 = 1;
@@ -73,7 +74,7 @@ fn place_of(len: u64, start: u64, sort: u64, index: u64) -> u64
 }
 
 // The two patterns that stand there, high byte first.
-fn pattern_at(bytes: &[u8], at: usize) -> Pattern
+fn patterns_there(bytes: &[u8], at: usize) -> Pattern
     requires { ⌜ at ≤ length (now bytes) ⌝ }
     ensures { λ r. ⌜ r ≡ patternAt (now (bytes .entry)) at ⌝ }
 {
@@ -91,7 +92,7 @@ fn stands_at(bytes: &[u8], sort: u64, at: usize) -> Patterned
     ensures { λ r. ⌜ r ≡ standsAt sort (now (bytes .entry)) at ⌝ }
 {
     if is_complex(sort) {
-        return Patterned::Complex(pattern_at(bytes, at));
+        return Patterned::Complex(patterns_there(bytes, at));
     }
     let n = words::two(bytes, at);
     Patterned::Count(n as u16)
@@ -157,7 +158,7 @@ pub fn power_in(bytes: &[u8], v: View, sort: u64, index: u64) -> Powered
             if is_complex(sort) {
                 if index < count {
                     let at = place_of(bytes.len() as u64, start, sort, index);
-                    let p = pattern_at(bytes, at as usize);
+                    let p = patterns_there(bytes, at as usize);
                     return strength(floats::power_of(p.re, p.im));
                 }
                 return Powered::Refused(words::bare(36));
@@ -165,4 +166,32 @@ pub fn power_in(bytes: &[u8], v: View, sort: u64, index: u64) -> Powered
             Powered::Refused(words::bare(23))
         }
     }
+}
+
+// Sample `index`, from 0, of line k of an image prefix held from byte 0, bits kept: the line's own wait or
+// refusal, then 36.
+pub fn pattern_at(bytes: &[u8], k: u64, index: u64) -> Patterned
+    ensures { λ r. ⌜ r ≡ patternOf (now (bytes .entry)) k index ⌝ }
+{
+    let x = lines::sorted_view(bytes, k);
+    let v = x.view;
+    pattern_in(bytes, v, x.sort, index)
+}
+
+// The same sample, as a count or two floats: the one reader of both sorts.
+pub fn sample_at(bytes: &[u8], k: u64, index: u64) -> Sampled
+    ensures { λ r. ⌜ r ≡ sampleOf (now (bytes .entry)) k index ⌝ }
+{
+    let x = lines::sorted_view(bytes, k);
+    let v = x.view;
+    sample_in(bytes, v, x.sort, index)
+}
+
+// Its power: the line's own, then 23 for counts, 36, 24.
+pub fn power_at(bytes: &[u8], k: u64, index: u64) -> Powered
+    ensures { λ r. ⌜ r ≡ powerOf (now (bytes .entry)) k index ⌝ }
+{
+    let x = lines::sorted_view(bytes, k);
+    let v = x.view;
+    power_in(bytes, v, x.sort, index)
 }

@@ -92,14 +92,15 @@ fn number_of(st: State, i: u64) -> u64 {
         38 => p.l,
         39 => p.w,
         40 => p.d,
-        _ => p.s,
+        41 => p.s,
+        _ => p.sort,
     }
 }
 
 fn say_state(st: State) {
     try_commands::say(b"STATE");
     let mut i = 0;
-    while i < 42 {
+    while i < 43 {
         try_commands::say_number(number_of(st, i));
         i += 1;
     }
@@ -131,8 +132,10 @@ fn with_plan(p: plan::Plan, i: u64, v: u64) -> plan::Plan {
         q.w = v;
     } else if i == 40 {
         q.d = v;
-    } else {
+    } else if i == 41 {
         q.s = v;
+    } else {
+        q.sort = v;
     }
     q
 }

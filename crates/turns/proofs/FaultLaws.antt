@@ -34,7 +34,7 @@ use Rattle.verdicts.specs.declared.Verdict.{Verdict}
 use Rattle.verdicts.specs.declared.Verdict.the-variants.{Fine, Fault}
 use Rattle.leader.specs.Leader.{pairs, pairTests, countAt, fieldsTests, listedTests, leaderTests, leaderRecord}
 use Rattle.leader.specs.declared.Pair.{Pair}
-use Rattle.image.specs.Image.{imageNumbers, agreeTests, agreements, imageTests, lineTests, imageRecord}
+use Rattle.image.specs.Image.{sortIn, imageNumbers, agreeTests, agreements, imageTests, lineTests, imageRecord}
 use Rattle.bodies.specs.Bodies.{trailerTests, firstTests, bodyTests, bodyOf}
 use Rattle.bodies.specs.Named.{firstOf, foundOf}
 use Rattle.headers.specs.Header.{headerTests, headerOf}
@@ -183,7 +183,8 @@ image-can run w k r =
       other 8 12 (omega arith) (omega arith) (omega arith),
       (
         other 8 428 (omega arith) (omega arith) (omega arith),
-        can-append 720 r (numbersTests r imageNumbers) (agreements r) (numbers-can 720 r (omega arith) imageNumbers refl) (agreed, (agreed, (agreed, tt))),
+        can-append 720 r (numbersTests r (imageNumbers (sortIn r))) (agreements r)
+            (numbers-can 720 r (omega arith) (imageNumbers (sortIn r)) refl) (agreed, (agreed, (agreed, tt))),
       ),
     )
     (lined 12 (omega arith), (lined 16 (omega arith), (lined 20 (omega arith), tt)))

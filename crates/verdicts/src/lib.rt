@@ -20,7 +20,7 @@ pub enum Verdict {
 }
 
 // The bytes from document 01's byte on are this text.
-fn text(r: &[u8], byte: usize, t: &[u8]) -> bool
+pub fn text(r: &[u8], byte: usize, t: &[u8]) -> bool
     requires { ⌜ byte + length (now t) < 1000 ⌝ }
     ensures { λ x. ⌜ x ≡ textAt (now (r .entry)) (placeOf byte) (now (t .entry)) ⌝ }
 {

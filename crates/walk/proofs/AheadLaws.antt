@@ -14,7 +14,7 @@ use Rattle.plan.specs.declared.Plan.{Plan}
 use Rattle.plan.specs.declared.Spot.{Spot}
 use Rattle.plan.specs.declared.Due.{Due}
 use Rattle.plan.proofs.CodeLaws.{line-spot, line-due, image-total}
-use Rattle.plan.proofs.GoodLaws.{image-agrees, image-within, image-bounds}
+use Rattle.plan.proofs.GoodLaws.{image-room, image-within, image-bounds}
 use Rattle.image.specs.Image.{imageRecord}
 use Rattle.bodies.specs.Bodies.{bodyOf, bodyTests}
 use Rattle.verdicts.specs.declared.Verdict.{Verdict}
@@ -42,13 +42,13 @@ module _ (p : Plan) (good : planGood image p ≡ true) where
       ∙ both-make _ _ refl (both-make _ _ good (le-leb _ _ (subst (λ (i : ℕ). k ≤ i) (sym (image-total p)) t)))
 
   -- a line that holds what it must is a turn that passes
-  line-turn : (k : ℕ) (b : List ℕ) (c : Bool) → k < p .n → LineFine (p .w) (p .l) (suc k) b → turnOf (behind p (suc k)) b c ≡ Pass
+  line-turn : (k : ℕ) (b : List ℕ) (c : Bool) → k < p .n → LineFine (p .sort) (p .w) (p .l) (suc k) b → turnOf (behind p (suc k)) b c ≡ Pass
   unfolding bodyOf bodyTests imageRecord
   line-turn k b c h f =
-      let a = image-agrees p good in
-      let s : Due = record { ordinal = suc k + 1; run = 1; codes = lineCodes 0; length = p .l; start = 720 + k * p .l } in
+      let a = image-room p good in
+      let s : Due = record { ordinal = suc k + 1; run = 1; codes = lineCodes (p .sort); length = p .l; start = 720 + k * p .l } in
       ap (λ (x : Due). judgeOf image p (suc k) x b c) (line-due p k h)
-      ∙ judge-body image p (suc k) s b c (subst (λ (i : ℕ). suc k < i) (sym (image-total p)) (omega arith)) (omega (arith, a .1, f .whole)) (f .head) (f .whole)
+      ∙ judge-body image p (suc k) s b c (subst (λ (i : ℕ). suc k < i) (sym (image-total p)) (omega arith)) (omega (arith, a, f .whole)) (f .head) (f .whole)
       ∙ ap (λ (v : Verdict). onFine v (suc k + 1) (s .start) Pass) (f .body)
 
   line-next : (k : ℕ) (b : List ℕ) → nextOf (behind p (suc k)) b ≡ behind p (suc (suc k))
@@ -56,7 +56,7 @@ module _ (p : Plan) (good : planGood image p ≡ true) where
       sym (next-as-later (behind p (suc k)) b p (λ e. omega arith) refl)
       ∙ ap (behind p) (let e : suc k + 1 ≡ suc (suc k) = omega arith in e)
 
-  pub ahead-walk : (c k m : ℕ) (b : List ℕ) (closed : Bool) → suc k + c ≤ suc (p .n) → LinesFine (p .w) (p .l) (suc k) c b
+  pub ahead-walk : (c k m : ℕ) (b : List ℕ) (closed : Bool) → suc k + c ≤ suc (p .n) → LinesFine (p .sort) (p .w) (p .l) (suc k) c b
       → walkOf (c + m) (behind p (suc k)) b closed ≡ more c (walkOf m (behind p (suc k + c)) (drop (c * p .l) b) closed)
   ahead-walk zero k m b closed h f =
       let z : 0 + m ≡ m = omega arith in
@@ -72,10 +72,10 @@ module _ (p : Plan) (good : planGood image p ≡ true) where
       let d : p .l + c * p .l ≡ suc c * p .l = omega (arith, suc-mul c (p .l)) in
       ap (λ (i : ℕ). walkOf i (behind p (suc k)) b closed) n
       ∙ walk-pass (behind p (suc k)) b closed (c + m) (behind-good (suc k) (omega arith) (omega arith))
-      (line-turn k b closed (omega arith) (head-fine (p .w) (p .l) (suc k) c b f))
+      (line-turn k b closed (omega arith) (head-fine (p .sort) (p .w) (p .l) (suc k) c b f))
       ∙ ap (λ (x : Spot). more 1 (walkOf (c + m) (nextOf (behind p (suc k)) b) (drop (x .length) b) closed)) (line-spot p k (omega arith))
       ∙ ap (λ (x : State). more 1 (walkOf (c + m) x (drop (p .l) b) closed)) (line-next k b)
-      ∙ ap (more 1) (ahead-walk c (suc k) m (drop (p .l) b) closed (omega arith) (tail-fine (p .w) (p .l) (suc k) c b f))
+      ∙ ap (more 1) (ahead-walk c (suc k) m (drop (p .l) b) closed (omega arith) (tail-fine (p .sort) (p .w) (p .l) (suc k) c b f))
       ∙ more-more 1 c (walkOf m (behind p (suc (suc k) + c)) (drop (c * p .l) (drop (p .l) b)) closed)
       ∙ ap₂ (λ (j i : ℕ). more j (walkOf m (behind p i) (drop (c * p .l) (drop (p .l) b)) closed)) x y
       ∙ ap (λ (x : List ℕ). more (suc c) (walkOf m (behind p (suc k + suc c)) x closed)) (drop-drop (c * p .l) (p .l) b ∙ ap (λ (i : ℕ). drop i b) d)
@@ -104,7 +104,8 @@ module _ (st : State) (b : List ℕ) (most c k : ℕ) (i : st .kind ≡ image) (
   same-state : (n m : ℕ) → n ≡ m → record { kind = st .kind; passed = n; plan = st .plan } ≡ behind (st .plan) m
   same-state n m e = ap (λ (x : ℕ). record { kind = x; passed = n; plan = st .plan }) i ∙ ap (behind (st .plan)) e
 
-  ahead-behind : c ≤ most → suc k + c ≤ suc (st .plan .n) → c * st .plan .l ≤ length b → LinesFine (st .plan .w) (st .plan .l) (suc k) c b → Ahead st b most c
+  ahead-behind : c ≤ most → suc k + c ≤ suc (st .plan .n) → c * st .plan .l ≤ length b → LinesFine (st .plan .sort) (st .plan .w) (st .plan .l) (suc k) c b
+      → Ahead st b most c
   ahead-behind few t room f =
       let e : st .passed + c ≡ suc k + c = omega arith in
       let s : skipped st c ≡ behind (st .plan) (suc k + c) = same-state (st .passed + c) (suc k + c) e in
@@ -122,9 +123,12 @@ module _ (st : State) (b : List ℕ) (most c k : ℕ) (i : st .kind ≡ image) (
 
 -- the lines of an image that pass one after the other, as the code counts them: at most `few`, which are no more than are left
 pub ahead-lines : (st : State) (b : List ℕ) (most few c : ℕ) → goodState st ≡ true → st .kind ≡ image → (st .passed ≡ 0 → ⊥)
-    → few ≤ most → st .passed + few ≤ suc (st .plan .n) → c ≡ linesFine (st .plan .w) (st .plan .l) (st .passed) few b → Ahead st b most c
+    → few ≤ most → st .passed + few ≤ suc (st .plan .n) → c ≡ linesFine (st .plan .sort) (st .plan .w) (st .plan .l) (st .passed) few b → Ahead st b most c
 ahead-lines st b most few c g i z less t e = subst (Ahead st b most) (sym e) (go (st .passed) refl)
   where
+    sort : ℕ
+    sort = st .plan .sort
+
     w : ℕ
     w = st .plan .w
 
@@ -132,15 +136,15 @@ ahead-lines st b most few c g i z less t e = subst (Ahead st b most) (sym e) (go
     l = st .plan .l
 
     found : ℕ
-    found = linesFine w l (st .passed) few b
+    found = linesFine sort w l (st .passed) few b
 
     go : (k : ℕ) → st .passed ≡ k → Ahead st b most found
     go zero h = absurd (z h)
     go (suc k) h =
-        let n : found ≤ few = lines-few w l (st .passed) few b in
+        let n : found ≤ few = lines-few sort w l (st .passed) few b in
         ahead-behind st b most found k i h (subst (λ (x : ℕ). planGood x (st .plan) ≡ true) i (good-later st g z .0)) (omega arith) (omega arith)
-        (lines-room w l (st .passed) few b)
-        (subst (λ (x : ℕ). LinesFine w l x found b) h (lines-are w l (st .passed) few b))
+        (lines-room sort w l (st .passed) few b)
+        (subst (λ (x : ℕ). LinesFine sort w l x found b) h (lines-are sort w l (st .passed) few b))
 
 -- what the code needs of an image's state
 pub image-state : (st : State) → goodState st ≡ true → st .kind ≡ image → (st .passed ≡ 0 → ⊥) → (st .passed ≤ suc (st .plan .n)) × (st .plan .n ≤ 999999)

@@ -121,9 +121,9 @@ impl State {
         }
         let left = p.n + 1 - k;
         if left < most {
-            return ahead::lines_ahead(p.w, p.l, k, left, b);
+            return ahead::lines_ahead(p.sort, p.w, p.l, k, left, b);
         }
-        ahead::lines_ahead(p.w, p.l, k, most, b)
+        ahead::lines_ahead(p.sort, p.w, p.l, k, most, b)
     }
 
     // The place in the file of the next record's first byte: what a caller hands over begins there.

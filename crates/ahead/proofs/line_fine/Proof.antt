@@ -13,10 +13,10 @@ use Rattle.ahead.proofs.line_fine.Statement.{statement}
 use Rattle.ahead.proofs.line_fine.Tie as tie
 
 returns : tie.Need-returns
-returns c = laws.not-whole _ _ _ (c .before .before .args .b .now) (c .if1 .taken)
+returns c = laws.not-whole _ _ _ _ (c .before .before .args .b .now) (c .if1 .taken)
 
 returns-2 : tie.Need-returns-2
-returns-2 c = laws.no-room _ _ _ (c .before .before .before .args .b .now) (c .before .if1 .left) (c .if2 .taken)
+returns-2 c = laws.no-room _ _ _ _ (c .before .before .before .args .b .now) (c .before .if1 .left) (c .if2 .taken)
 
 slice-aggregate-r : tie.Need-slice-aggregate-r
 slice-aggregate-r c = sym (length-take-le _ (c .before .before .before .before .args .b .now) (omega (arith, c .before .before .if1 .left)))
@@ -40,17 +40,23 @@ both-requires c κs = search needs
 
 returns-3 : tie.Need-returns-3
 returns-3 c =
+    let header-there = c .before .before .header-there in
+    let args = c .before .before .before .before .before .before .before .args in
+    let pre = c .before .before .before .before .before .before .before .pre in
+    let line-there = c .before .line-there in
+    let if1 = c .before .before .before .before .before .if1 in
+    let if2 = c .before .before .before .before .if2 in
     c .both .ensures
     ∙ ap₂ bothOf
-    (c .before .before .header-there .ensures
+    (header-there .ensures
     ∙ ap (λ (y : Codes). allHold
-    (headerTests (c .before .before .before .before .before .before .before .args .k + 1) y
-    (c .before .before .before .before .before .before .before .args .l) (c .before .before .before .before .before .before .before .args .b .now)))
-    (c .before .before .before .before .before .before .before .pre .0))
-    (c .before .line-there .ensures)
-    ∙ laws.tested (c .before .before .before .before .before .before .before .args .w) (c .before .before .before .before .before .before .before .args .l)
-    (c .before .before .before .before .before .before .before .args .k) (c .before .before .before .before .before .before .before .args .b .now)
-    (c .before .before .before .before .before .if1 .left) (c .before .before .before .before .if2 .left)
+    (headerTests (args .k + 1) y
+    (args .l) (args .b .now)))
+    (pre .0))
+    (line-there .ensures)
+    ∙ laws.tested (args .sort) (args .w) (args .l)
+    (args .k) (args .b .now)
+    (if1 .left) (if2 .left)
 
 pub line-fine-spec : {M : Type 1} → statement M
 line-fine-spec =

@@ -10,10 +10,10 @@ use Rattle.ahead.proofs.lines_ahead.Statement.{statement}
 use Rattle.ahead.proofs.lines_ahead.Tie as tie
 
 abbrev Inv-loop : tie.InvT-loop
-Inv-loop w l k most b codes c₀ at₀ c at = (c ≤ most) × (at ≤ length b) × laws.Counting w l k most c at b
+Inv-loop sort w l k most b codes c₀ at₀ c at = (c ≤ most) × (at ≤ length b) × laws.Counting sort w l k most c at b
 
 abbrev μ-loop : tie.MeasureT-loop
-μ-loop w l k most b codes c₀ at₀ c at = most - c
+μ-loop sort w l k most b codes c₀ at₀ c at = most - c
 
 line-codes-requires : tie.Need-line-codes-requires Inv-loop μ-loop
 line-codes-requires c κs = search needs
@@ -22,7 +22,7 @@ loop-holds : tie.Need-loop-holds Inv-loop μ-loop
 loop-holds c = (
   omega arith,
   omega arith,
-  laws.count-none (c .before .before .args .w) (c .before .before .args .l) (c .before .before .args .k)
+  laws.count-none (c .before .before .args .sort) (c .before .before .args .w) (c .before .before .args .l) (c .before .before .args .k)
       (c .before .before .args .most) (c .before .before .args .b .now),
 )
 
@@ -42,17 +42,21 @@ line-fine-requires : tie.Need-line-fine-requires Inv-loop μ-loop
 line-fine-requires c κs = (c .before .before .before .line-codes .ensures, omega arith)
 
 returns : tie.Need-returns Inv-loop μ-loop
-returns c = laws.count-stop (c .before .before .before .before .before .before .before .args .w)
-    (c .before .before .before .before .before .before .before .args .l) (c .before .before .before .before .before .before .before .args .k)
-    (c .before .before .before .before .before .before .before .args .most) (c .before .before .before .before .loop .c)
-    (c .before .before .before .before .loop .at) (c .before .before .before .before .before .before .before .args .b .now)
-    (c .before .before .before .before .loop .inv .2) (omega arith) (sym (c .before .line-fine .ensures)
-    ∙ not-true (c .before .line-fine .result) (c .if1 .taken))
+returns c =
+    let args = c .before .before .before .before .before .before .before .args in
+    let loop = c .before .before .before .before .loop in
+    let line-fine = c .before .line-fine in
+    laws.count-stop (args .sort) (args .w)
+    (args .l) (args .k)
+    (args .most) (loop .c)
+    (loop .at) (args .b .now)
+    (loop .inv .2) (omega arith) (sym (line-fine .ensures)
+    ∙ not-true (line-fine .result) (c .if1 .taken))
 
 add-at : tie.Need-add-at Inv-loop μ-loop
 add-at c = omega (
   arith,
-  laws.fine-room (c .before .before .before .before .before .before .before .args .w)
+  laws.fine-room (c .before .before .before .before .before .before .before .args .sort) (c .before .before .before .before .before .before .before .args .w)
       (c .before .before .before .before .before .before .before .args .l)
       (c .before .before .before .before .before .before .before .args .k + c .before .before .before .before .loop .c)
       (c .before .before .before .before .loop .at) (c .before .before .before .before .before .before .before .args .b .now)
@@ -67,24 +71,30 @@ loop-less c = search needs
 
 loop-again : tie.Need-loop-again Inv-loop μ-loop
 loop-again c =
-    let f = (sym (c .before .line-fine .ensures) ∙ not-false (c .before .line-fine .result) (c .if1 .left)) in (
+    let line-fine = c .before .line-fine in
+    let args = c .before .before .before .before .before .before .before .args in
+    let loop = c .before .before .before .before .loop in
+    let f = (sym (line-fine .ensures) ∙ not-false (line-fine .result) (c .if1 .left)) in (
       omega arith,
-      laws.fine-room (c .before .before .before .before .before .before .before .args .w)
-          (c .before .before .before .before .before .before .before .args .l)
-          (c .before .before .before .before .before .before .before .args .k + c .before .before .before .before .loop .c)
-          (c .before .before .before .before .loop .at) (c .before .before .before .before .before .before .before .args .b .now)
-          (c .before .before .before .before .loop .inv .1) f,
-      laws.count-more (c .before .before .before .before .before .before .before .args .w)
-          (c .before .before .before .before .before .before .before .args .l) (c .before .before .before .before .before .before .before .args .k)
-          (c .before .before .before .before .before .before .before .args .most) (c .before .before .before .before .loop .c)
-          (c .before .before .before .before .loop .at) (c .before .before .before .before .before .before .before .args .b .now)
-          (c .before .before .before .before .loop .inv .2) (omega arith) f,
+      laws.fine-room (args .sort) (args .w)
+          (args .l)
+          (args .k + loop .c)
+          (loop .at) (args .b .now)
+          (loop .inv .1) f,
+      laws.count-more (args .sort) (args .w)
+          (args .l) (args .k)
+          (args .most) (loop .c)
+          (loop .at) (args .b .now)
+          (loop .inv .2) (omega arith) f,
     )
 
 returns-2 : tie.Need-returns-2 Inv-loop μ-loop
-returns-2 c = laws.count-full (c .before .before .before .before .args .w) (c .before .before .before .before .args .l)
-    (c .before .before .before .before .args .k) (c .before .before .before .before .args .most) (c .before .loop .c) (c .before .loop .at)
-    (c .before .before .before .before .args .b .now) (c .before .loop .inv .2) (omega arith)
+returns-2 c =
+    let args = c .before .before .before .before .args in
+    let loop = c .before .loop in
+    laws.count-full (args .sort) (args .w) (args .l)
+    (args .k) (args .most) (loop .c) (loop .at)
+    (args .b .now) (loop .inv .2) (omega arith)
 
 pub lines-ahead-spec : {M : Type 1} → statement M
 lines-ahead-spec =

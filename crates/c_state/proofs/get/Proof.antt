@@ -28,17 +28,20 @@ shared-slice-read-t14 c = search needs
 shared-slice-read-t16 : tie.Need-shared-slice-read-t16
 shared-slice-read-t16 c = search needs
 
+shared-slice-read-t18 : tie.Need-shared-slice-read-t18
+shared-slice-read-t18 c = search needs
+
 shared-slice-read-t6-2 : tie.Need-shared-slice-read-t6-2
 shared-slice-read-t6-2 c = search needs
 
-shared-slice-read-t16-2 : tie.Need-shared-slice-read-t16-2
-shared-slice-read-t16-2 c = search needs
+shared-slice-read-t18-2 : tie.Need-shared-slice-read-t18-2
+shared-slice-read-t18-2 c = search needs
 
 returns : tie.Need-returns
 unfolding stateIn
 returns c = simp (
-  c .before .before .before .before .before .before .before .before .before .every-second .ensures,
-  c .before .before .before .before .before .before .before .before .every-second2 .ensures,
+  c .before .before .before .before .before .before .before .before .before .before .every-second .ensures,
+  c .before .before .before .before .before .before .before .before .before .every-second2 .ensures,
 )
 
 pub get-spec : {M : Type 1} → statement M
@@ -53,6 +56,7 @@ get-spec =
     shared-slice-read-t12
     shared-slice-read-t14
     shared-slice-read-t16
+    shared-slice-read-t18
     shared-slice-read-t6-2
-    shared-slice-read-t16-2
+    shared-slice-read-t18-2
     returns)

@@ -1,4 +1,4 @@
--- Three numbers, then the pairs, then five: the array so far is the numbers written, then the old ones behind them.
+-- Three numbers, then the pairs, then six: the array so far is the numbers written, then the old ones behind them.
 use Prim.Native.Nat.{ℕ, _+_, _-_, _*_, _≤_}
 use mathlib.Core.Path.{_≡_, refl, subst}
 use borrow.Author.Needs.{needs}
@@ -131,12 +131,19 @@ slice-write-state-10 c =
     let loop = c .before .loop in
     laws.room-41 (args .st) (args .state .now) pre (loop .state) (loop .inv .1)
 
+slice-write-state-11 : tie.Need-slice-write-state-11 Inv-loop μ-loop
+slice-write-state-11 c =
+    let args = c .before .before .before .before .args in
+    let pre = c .before .before .before .before .pre in
+    let loop = c .before .loop in
+    laws.room-42 (args .st) (args .state .now) pre (loop .state) (loop .inv .1)
+
 same-length : tie.Need-same-length Inv-loop μ-loop
 same-length c =
     let args = c .before .before .before .before .args in
     let pre = c .before .before .before .before .pre in
     let loop = c .before .loop in
-    laws.five-long (args .st) (args .state .now) pre (loop .state) (loop .inv .1)
+    laws.six-long (args .st) (args .state .now) pre (loop .state) (loop .inv .1)
 
 returns : tie.Need-returns Inv-loop μ-loop
 returns c =
@@ -144,7 +151,7 @@ returns c =
     let pre = c .before .before .before .before .pre in
     let loop = c .before .loop in
     let full : loop .j ≡ rows = omega (arith, c .loop-test .left) in
-    laws.five-put (args .st) (args .state .now) pre (loop .state)
+    laws.six-put (args .st) (args .state .now) pre (loop .state)
     (subst (λ (j : ℕ). laws.Put (args .st) (3 + 2 * j) (laws.three (args .st) (args .state .now) pre) (loop .state)) full (loop .inv .2))
 
 pub put-spec : {M : Type 1} → statement M
@@ -177,5 +184,6 @@ put-spec =
     slice-write-state-8
     slice-write-state-9
     slice-write-state-10
+    slice-write-state-11
     same-length
     returns)

@@ -48,39 +48,61 @@ number-requires-8 c κs = search needs
 
 returns : tie.Need-returns
 unfolding imageRow
-returns c = c .number .ensures ∙ sym (ap (λ (k : ℕ). numberField (c .before .before .before .before .args .r .now) (imageRow k)) (c .before .match .keys1))
+returns c =
+    let args = c .before .before .before .before .args in
+    let match = c .before .match in
+    c .number .ensures ∙ sym (ap (λ (k : ℕ). numberField (args .r .now) (imageRow (args .sort) k)) (match .keys1))
 
 returns-2 : tie.Need-returns-2
 unfolding imageRow
-returns-2 c = c .number2 .ensures ∙ sym (ap (λ (k : ℕ). numberField (c .before .before .before .before .args .r .now) (imageRow k)) (c .before .match .keys2))
+returns-2 c =
+    let args = c .before .before .before .before .args in
+    let match = c .before .match in
+    c .number2 .ensures ∙ sym (ap (λ (k : ℕ). numberField (args .r .now) (imageRow (args .sort) k)) (match .keys2))
 
 returns-3 : tie.Need-returns-3
 unfolding imageRow
-returns-3 c = c .number3 .ensures
-    ∙ ap (λ (s : Sort). neededOf (at (c .before .before .before .before .args .r .now) 225 I4) (placeOf 225) (s .group) (s .group))
-    (c .before .before .sort-at .ensures)
-    ∙ sym (ap (λ (k : ℕ). numberField (c .before .before .before .before .args .r .now) (imageRow k)) (c .before .match .keys3))
+returns-3 c =
+    let args = c .before .before .before .before .args in
+    let sort-at = c .before .before .sort-at in
+    let match = c .before .match in
+    c .number3 .ensures
+    ∙ ap (λ (s : Sort). neededOf (at (args .r .now) 225 I4) (placeOf 225) (s .group) (s .group))
+    (sort-at .ensures)
+    ∙ sym (ap (λ (k : ℕ). numberField (args .r .now) (imageRow (args .sort) k)) (match .keys3))
 
 returns-4 : tie.Need-returns-4
 unfolding imageRow
-returns-4 c = c .number4 .ensures ∙ sym (ap (λ (k : ℕ). numberField (c .before .before .before .before .args .r .now) (imageRow k)) (c .before .match .keys4))
+returns-4 c =
+    let args = c .before .before .before .before .args in
+    let match = c .before .match in
+    c .number4 .ensures ∙ sym (ap (λ (k : ℕ). numberField (args .r .now) (imageRow (args .sort) k)) (match .keys4))
 
 returns-5 : tie.Need-returns-5
 unfolding imageRow
-returns-5 c = c .number5 .ensures ∙ sym (ap (λ (k : ℕ). numberField (c .before .before .before .before .args .r .now) (imageRow k)) (c .before .match .keys5))
+returns-5 c =
+    let args = c .before .before .before .before .args in
+    let match = c .before .match in
+    c .number5 .ensures ∙ sym (ap (λ (k : ℕ). numberField (args .r .now) (imageRow (args .sort) k)) (match .keys5))
 
 returns-6 : tie.Need-returns-6
 unfolding imageRow
-returns-6 c = c .number6 .ensures ∙ sym (ap (λ (k : ℕ). numberField (c .before .before .before .before .args .r .now) (imageRow k)) (c .before .match .keys6))
+returns-6 c =
+    let args = c .before .before .before .before .args in
+    let match = c .before .match in
+    c .number6 .ensures ∙ sym (ap (λ (k : ℕ). numberField (args .r .now) (imageRow (args .sort) k)) (match .keys6))
 
 returns-7 : tie.Need-returns-7
 unfolding imageRow
-returns-7 c = c .number7 .ensures ∙ sym (ap (λ (k : ℕ). numberField (c .before .before .before .before .args .r .now) (imageRow k)) (c .before .match .keys7))
+returns-7 c =
+    let args = c .before .before .before .before .args in
+    let match = c .before .match in
+    c .number7 .ensures ∙ sym (ap (λ (k : ℕ). numberField (args .r .now) (imageRow (args .sort) k)) (match .keys7))
 
 returns-8 : tie.Need-returns-8
 unfolding imageRow
 returns-8 c = c .number8 .ensures
-    ∙ sym (ap (λ (k : ℕ). numberField (c .before .before .before .before .args .r .now) (imageRow k))
+    ∙ sym (ap (λ (k : ℕ). numberField (c .before .before .before .before .args .r .now) (imageRow (c .before .before .before .before .args .sort) k))
     (last _ (past 6 _ (past 5 _
     (past 4 _ (past 3 _ (past 2 _ (past 1 _ (past 0 _ zero-le (c .before .match .rest .0 .0 .0 .0 .0 .0 .1)) (c .before .match .rest .0 .0 .0 .0 .0 .1))
     (c .before .match .rest .0 .0 .0 .0 .1)) (c .before .match .rest .0 .0 .0 .1)) (c .before .match .rest .0 .0 .1)) (c .before .match .rest .0 .1))

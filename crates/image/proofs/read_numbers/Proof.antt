@@ -17,11 +17,11 @@ use Rattle.image.proofs.read_numbers.Statement.{statement}
 use Rattle.image.proofs.read_numbers.Tie as tie
 
 abbrev Inv-loop : tie.InvT-loop
-Inv-loop r values₀ i₀ values i = (i ≤ 8) × (length values ≡ 8) × (firstFault (numbersTests r imageNumbers) ≡ firstFault (laws.left r i)) ×
-    ((k : ℕ) → k < i → getD values k 0 ≡ rowNumber r (imageRow k))
+Inv-loop r sort values₀ i₀ values i = (i ≤ 8) × (length values ≡ 8) × (firstFault (numbersTests r (imageNumbers sort)) ≡ firstFault (laws.left sort r i)) ×
+    ((k : ℕ) → k < i → getD values k 0 ≡ rowNumber r (imageRow sort k))
 
 abbrev μ-loop : tie.MeasureT-loop
-μ-loop r values₀ i₀ values i = 8 - i
+μ-loop r sort values₀ i₀ values i = 8 - i
 
 loop-holds : tie.Need-loop-holds Inv-loop μ-loop
 unfolding numbersTests
@@ -37,9 +37,15 @@ fault-requires : tie.Need-fault-requires Inv-loop μ-loop
 fault-requires c κs = search needs
 
 returns : tie.Need-returns Inv-loop μ-loop
-returns c = let l = c .before .before .before .before .loop in
-    let q = laws.row-none (c .before .before .before .before .before .before .args .r .now) (l .i) (c .before .before .number-at .ensures)
-    (c .before .before .before .loop-test .taken) (c .before .match .keys2) in
+returns c =
+    let loop = c .before .before .before .before .loop in
+    let args = c .before .before .before .before .before .before .args in
+    let number-at = c .before .before .number-at in
+    let loop-test = c .before .before .before .loop-test in
+    let match = c .before .match in
+    let l = loop in
+    let q = laws.row-none (args .sort) (args .r .now) (l .i) (number-at .ensures)
+    (loop-test .taken) (match .keys2) in
     record {
       verdict = c .fault .ensures ∙ q .2 ∙ sym (l .inv .2);
       values = λ e. absurd (not-fine (c .fault .ensures ∙ q .1 .1) e);
@@ -68,19 +74,23 @@ loop-again c =
     let z : toZ w64 (ofZ w64 (c .before .before .f .given .0 .0)) ≡ c .before .before .f .given .0 .0 = search needs in (
       omega arith,
       length-set (l .values) (l .i) _ ∙ l .inv .1,
-      l .inv .2 ∙ laws.row-next r (l .i) (c .before .before .before .before .number-at .ensures) (c .before .before .f .given .1)
+      l .inv .2 ∙ laws.row-next (args .sort) r (l .i) (c .before .before .before .before .number-at .ensures) (c .before .before .f .given .1)
           (c .before .before .before .before .before .loop-test .taken),
-      fill-more (λ (k : ℕ). rowNumber r (imageRow k)) (l .values) (l .i) (c .whole .result) (omega arith) (c .whole .ensures ∙ ap wholeOf z
-          ∙ laws.row-value r (l .i) (c .before .before .before .before .number-at .ensures) (c .before .before .f .given .1)) (l .inv .3),
+      fill-more (λ (k : ℕ). rowNumber r (imageRow (args .sort) k)) (l .values) (l .i) (c .whole .result) (omega arith) (c .whole .ensures ∙ ap wholeOf z
+          ∙ laws.row-value (args .sort) r (l .i) (c .before .before .before .before .number-at .ensures) (c .before .before .f .given .1)) (l .inv .3),
     )
 
 returns-2 : tie.Need-returns-2 Inv-loop μ-loop
 unfolding imageRow
-returns-2 c = let l = c .before .loop in
-    let r = c .before .before .before .args .r .now in
+returns-2 c =
+    let loop = c .before .loop in
+    let args = c .before .before .before .args in
+    let l = loop in
+    let r = args .r .now in
     record {
-      verdict = sym (l .inv .2 ∙ rows-end (rowTests r) imageNumbers (number 0 I4 0 0) (l .i) 8 (omega arith) (c .loop-test .left));
-      values = λ e. fill-done (number 0 I4 0 0) (rowNumber r) (l .values) imageNumbers (l .inv .1) (λ k h. l .inv .3 k (omega (arith, c .loop-test .left)));
+      verdict = sym (l .inv .2 ∙ rows-end (rowTests r) (imageNumbers (args .sort)) (number 0 I4 0 0) (l .i) 8 (omega arith) (c .loop-test .left));
+      values = λ e. fill-done (number 0 I4 0 0) (rowNumber r) (l .values) (imageNumbers (args .sort)) (l .inv .1)
+          (λ k h. l .inv .3 k (omega (arith, c .loop-test .left)));
     }
 
 pub read-numbers-spec : {M : Type 1} → statement M

@@ -2,7 +2,6 @@
 use native.Mathlib.Omega.{arith}
 use mathlib.Core.Path.{sym, ap, _∙_}
 use Rattle.words.proofs.Laws.{within-true}
-use Rattle.plan.specs.Plan.{group}
 use Rattle.plan.specs.declared.Due.{Due}
 use Rattle.lines.specs.View.{lineAt}
 use Rattle.lines.specs.declared.View.the-variants.{Refused}
@@ -33,8 +32,8 @@ returns : tie.Need-returns
 returns c =
     let args = c .before .before .before .before .before .args in
     let bs = args .bytes .now in
-    c .line-at .ensures ∙ ap (λ (s : Due). lineAt group (args .p) (args .k) s bs) (c .before .line-due .ensures .0)
-    ∙ sym (laws.line-in group (args .p) (args .k) bs (sym (c .before .before .before .within .ensures) ∙ c .before .before .if1 .taken))
+    c .line-at .ensures ∙ ap (λ (s : Due). lineAt (args .p) (args .k) s bs) (c .before .line-due .ensures .0)
+    ∙ sym (laws.line-in (args .p) (args .k) bs (sym (c .before .before .before .within .ensures) ∙ c .before .before .if1 .taken))
 
 bare-requires : tie.Need-bare-requires
 bare-requires c κs = search needs
@@ -43,7 +42,7 @@ returns-2 : tie.Need-returns-2
 returns-2 c =
     let args = c .before .before .before .before .args in
     ap Refused (c .bare .ensures)
-    ∙ sym (laws.line-out group (args .p) (args .k) (args .bytes .now) (sym (c .before .before .within .ensures) ∙ c .before .if1 .left))
+    ∙ sym (laws.line-out (args .p) (args .k) (args .bytes .now) (sym (c .before .before .within .ensures) ∙ c .before .if1 .left))
 
 pub line-spec : {M : Type 1} → statement M
 line-spec =

@@ -2,7 +2,6 @@
 use Prim.Native.Nat.{ℕ, _+_}
 use mathlib.Core.List.{List}
 use native.Mathlib.Omega.{arith}
-use Rattle.plan.specs.Plan.{group}
 use Rattle.verdicts.specs.declared.Verdict.{Verdict}
 use Rattle.turns.specs.Turn.{Near}
 use Rattle.lines.specs.View.{foundIn, onVerdict, shownOf, recordAt}
@@ -19,7 +18,7 @@ sub-t15 : tie.Need-sub-t15
 sub-t15 c = search needs
 
 returns : tie.Need-returns
-returns c = sym (laws.at-short group (c .before .before .before .args .p) (c .before .before .before .args .k) (c .before .before .before .args .d)
+returns c = sym (laws.at-short (c .before .before .before .args .p) (c .before .before .before .args .k) (c .before .before .before .args .d)
     (c .before .before .before .args .bytes .now) (c .if1 .taken))
 
 sub-r : tie.Need-sub-r
@@ -48,9 +47,9 @@ add-t18 c = omega (
 returns-2 : tie.Need-returns-2
 returns-2 c =
     let args = c .before .before .before .before .before .before .before .before .before .args in
-    sym (laws.at-whole group (args .p) (args .k) (args .d) (args .bytes .now) (c .before .before .before .before .before .before .if1 .left)
+    sym (laws.at-whole (args .p) (args .k) (args .d) (args .bytes .now) (c .before .before .before .before .before .before .if1 .left)
     ∙ ap (λ (v : Verdict). onVerdict v (args .d .ordinal) (args .d .start)
-    (shownOf group (args .p) (args .d .start) (recordAt (args .d) (args .bytes .now)))) (sym (c .before .before .before .before .found .ensures
+    (shownOf (args .p) (args .d .start) (recordAt (args .d) (args .bytes .now)))) (sym (c .before .before .before .before .found .ensures
     ∙ ap (λ (r : List ℕ). foundIn (args .p) (args .k) (args .d) r) (laws.part-is (args .d .start) (args .d .length) (args .bytes .now)))
     ∙ c .before .before .v .given .1))
 
@@ -63,11 +62,11 @@ shown-requires c κs = search needs
 returns-3 : tie.Need-returns-3
 returns-3 c =
     let args = c .before .before .before .before .before .before .before .before .args in
-    c .shown .ensures ∙ ap (λ (r : List ℕ). shownOf group (args .p) (args .d .start) r)
+    c .shown .ensures ∙ ap (λ (r : List ℕ). shownOf (args .p) (args .d .start) r)
     (laws.part-is (args .d .start) (args .d .length) (args .bytes .now))
-    ∙ sym (laws.at-whole group (args .p) (args .k) (args .d) (args .bytes .now) (c .before .before .before .before .before .if1 .left)
+    ∙ sym (laws.at-whole (args .p) (args .k) (args .d) (args .bytes .now) (c .before .before .before .before .before .if1 .left)
     ∙ ap (λ (v : Verdict). onVerdict v (args .d .ordinal) (args .d .start)
-    (shownOf group (args .p) (args .d .start) (recordAt (args .d) (args .bytes .now)))) (sym (c .before .before .before .found .ensures
+    (shownOf (args .p) (args .d .start) (recordAt (args .d) (args .bytes .now)))) (sym (c .before .before .before .found .ensures
     ∙ ap (λ (r : List ℕ). foundIn (args .p) (args .k) (args .d) r) (laws.part-is (args .d .start) (args .d .length) (args .bytes .now)))
     ∙ c .before .enum-told .given .1))
 

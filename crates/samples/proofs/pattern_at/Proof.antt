@@ -1,26 +1,22 @@
--- Four bytes twice are the two patterns, which 32 bits hold.
+-- The pattern of what the line view shows there.
+use mathlib.Core.Path.{ap, _∙_}
+use Rattle.lines.specs.declared.Sorted.{Sorted}
+use Rattle.samples.specs.Samples.{patternedBy}
+use Rattle.samples.specs.Asked.{patternOf}
 use borrow.Author.Needs.{needs}
 use Rattle.samples.proofs.pattern_at.Statement.{statement}
 use Rattle.samples.proofs.pattern_at.Tie as tie
 
-four-requires : tie.Need-four-requires
-four-requires c κs = search needs
+sorted-view-requires : tie.Need-sorted-view-requires
+sorted-view-requires c κs = search needs
 
-add-four : tie.Need-add-four
-add-four c = search needs
-
-four-requires-2 : tie.Need-four-requires-2
-four-requires-2 c κs = search needs
-
-cast-t6 : tie.Need-cast-t6
-cast-t6 c = search needs
-
-cast-t7 : tie.Need-cast-t7
-cast-t7 c = search needs
+pattern-in-requires : tie.Need-pattern-in-requires
+pattern-in-requires c κs = search needs
 
 returns : tie.Need-returns
-returns c = cc
+unfolding patternOf
+returns c = let a = c .before .before .before .args in
+    c .pattern-in .ensures ∙ ap (λ (x : Sorted). patternedBy (x .view) (x .sort) (a .bytes .now) (a .index)) (c .before .sorted-view .ensures)
 
 pub pattern-at-spec : {M : Type 1} → statement M
-pattern-at-spec =
-    tie.close (tie.spec four-requires add-four four-requires-2 cast-t6 cast-t7 returns)
+pattern-at-spec = tie.close (tie.spec sorted-view-requires pattern-in-requires returns)

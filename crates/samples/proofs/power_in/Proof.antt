@@ -22,8 +22,8 @@ is-complex-requires c κs = search needs
 place-of-requires : tie.Need-place-of-requires
 place-of-requires c κs = search needs
 
-pattern-at-requires : tie.Need-pattern-at-requires
-pattern-at-requires c κs = search needs
+patterns-there-requires : tie.Need-patterns-there-requires
+patterns-there-requires c κs = search needs
 
 power-of-requires : tie.Need-power-of-requires
 power-of-requires c κs = search needs
@@ -38,7 +38,7 @@ returns c =
     let sort = sym (c .before .before .before .before .before .before .is-complex .ensures) ∙ c .before .before .before .before .before .if1 .taken in
     let inside = c .before .before .before .before .if2 .taken in
     let place = c .before .before .before .place-of .ensures .0 in
-    let found = c .before .before .pattern-at .ensures in
+    let found = c .before .before .patterns-there .ensures in
     let there = laws.power-there (args .v) (args .sort) (args .bytes .now) (args .index) _ _ _ sees sort inside _ place _ found in
     c .strength .ensures ∙ ap onPower (c .before .power-of .ensures) ∙ there
 
@@ -81,7 +81,7 @@ power-in-spec =
     enum-known-v-3
     is-complex-requires
     place-of-requires
-    pattern-at-requires
+    patterns-there-requires
     power-of-requires
     strength-requires
     returns

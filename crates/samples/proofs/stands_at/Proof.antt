@@ -9,11 +9,11 @@ use Rattle.samples.proofs.stands_at.Tie as tie
 is-complex-requires : tie.Need-is-complex-requires
 is-complex-requires c κs = search needs
 
-pattern-at-requires : tie.Need-pattern-at-requires
-pattern-at-requires c κs = search needs
+patterns-there-requires : tie.Need-patterns-there-requires
+patterns-there-requires c κs = search needs
 
 returns : tie.Need-returns
-returns c = ap Complex (c .pattern-at .ensures) ∙ sym (pick-true _ _ _ (sym (c .before .before .is-complex .ensures) ∙ c .before .if1 .taken))
+returns c = ap Complex (c .patterns-there .ensures) ∙ sym (pick-true _ _ _ (sym (c .before .before .is-complex .ensures) ∙ c .before .if1 .taken))
 
 two-requires : tie.Need-two-requires
 two-requires c κs = search needs
@@ -27,4 +27,4 @@ returns-2 c = ap Count (c .two .ensures .0) ∙ sym (pick-false _ _ _ (sym (c .b
 pub stands-at-spec : {M : Type 1} → statement M
 stands-at-spec =
     tie.close
-    (tie.spec is-complex-requires pattern-at-requires returns two-requires cast-t7 returns-2)
+    (tie.spec is-complex-requires patterns-there-requires returns two-requires cast-t7 returns-2)
