@@ -10,7 +10,7 @@
 //   w FROM LENGTH CLOSED BUDGET  the walk over LENGTH bytes from place FROM (from 0) on
 //   t FROM LENGTH CLOSED         one step
 //   s                            the place of the next record's first byte
-//   v                            the state's 42 numbers
+//   v                            the state's 43 numbers
 //   n INDEX VALUE                one of them is set
 use try_commands::Taken;
 use turns::Stop;

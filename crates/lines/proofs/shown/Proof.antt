@@ -1,9 +1,10 @@
 -- The numbers of the definition, each read where it stands.
-use Prim.Native.Nat.{ℕ, _+_, _*_}
+use Prim.Native.Nat.{ℕ, _+_, _*_, _≤_}
 use mathlib.Core.Path.{_≡_, ap, ap₂, _∙_}
 use native.Mathlib.Omega.{arith}
 use Rattle.words.specs.Words.{fourAt, placeOf}
 use native.Mathlib.Nat.{mul-le-mul}
+use Rattle.plan.specs.Tables.{sortOf}
 use Rattle.plan.specs.Plan.{groupOf}
 use Rattle.plan.specs.declared.Sort.{Sort}
 use Rattle.plan.proofs.CodeLaws.{sort-modest}
@@ -12,6 +13,10 @@ use Rattle.lines.specs.declared.View.the-variants.{Shown}
 use borrow.Author.Needs.{needs}
 use Rattle.lines.proofs.shown.Statement.{statement}
 use Rattle.lines.proofs.shown.Tie as tie
+
+-- the group that was looked up is small
+modest : (i : ℕ) (s : Sort) → s ≡ sortOf i → s .group ≤ 8
+modest i s e = omega (arith, sort-modest i .0, ap (λ (x : Sort). x .group) e)
 
 place-requires : tie.Need-place-requires
 place-requires c κs = search needs
@@ -39,18 +44,17 @@ add-from c = search needs
 mul-from : tie.Need-mul-from
 mul-from c =
     let sort-at = c .before .sort-at in
-    let args = c .before .before .before .before .before .before .before .args in
-    let four-there = c .before .before .before .before .four-there in
-    rw (sort-at .ensures) (omega (arith, mul-le-mul (sort-modest (args .p .sort) .0) (four-there .ensures .1)))
+    let left = c .before .before .before .before .four-there in
+    let g = modest (c .before .before .before .before .before .before .before .args .p .sort) (sort-at .result) (sort-at .ensures) in
+    omega (arith, mul-le-mul g (left .ensures .1))
 
 add-from-2 : tie.Need-add-from-2
 add-from-2 c =
     let sort-at = c .before .sort-at in
-    let args = c .before .before .before .before .before .before .before .args in
-    let four-there = c .before .before .before .before .four-there in
+    let left = c .before .before .before .before .four-there in
     let pre = c .before .before .before .before .before .before .before .pre in
-    rw (sort-at .ensures) (omega
-    (arith, mul-le-mul (sort-modest (args .p .sort) .0) (four-there .ensures .1), c .pixels-from .ensures .1, pre .0))
+    let g = modest (c .before .before .before .before .before .before .before .args .p .sort) (sort-at .result) (sort-at .ensures) in
+    omega (arith, mul-le-mul g (left .ensures .1), c .pixels-from .ensures .1, pre .0)
 
 returns : tie.Need-returns
 unfolding shownOf
