@@ -20,7 +20,7 @@ from typing import IO, Any, Callable, Iterator, Sequence
 sys.dont_write_bytecode = True
 sys.path.insert(0, str(Path(__file__).resolve().parent.parent / 'examples'))
 import listing  # noqa: E402
-from commands import LINE, TESTS, held, image, image_first  # noqa: E402
+from commands import COUNTS, TESTS, held, image, image_first  # noqa: E402
 import make  # noqa: E402  (commands.py puts tests/oracle on the path)
 import reader  # noqa: E402
 from reader import IMAGE  # noqa: E402
@@ -125,7 +125,7 @@ class Talk:
 
 def line_record(line: int, length: int, fills: tuple[int, int, int], text: bytes = b'.') -> bytes:
     """A line's record in document 01's words: sequence number, codes, length; number, index, fills."""
-    head = b''.join(number.to_bytes(4, 'big') for number in (line + 1, int.from_bytes(bytes(LINE), 'big'), length, line, 1, *fills))
+    head = b''.join(number.to_bytes(4, 'big') for number in (line + 1, int.from_bytes(bytes(COUNTS.line), 'big'), length, line, 1, *fills))
     return head + text * (length - len(head))
 
 
