@@ -1,8 +1,8 @@
 #!/usr/bin/env python3
 """What the object code must have that no proof speaks of, in the library that scripts/lib made.
 
-The row copy swaps in vectors (docs/SPEED.md): a small edit of `copies::pair` or `copies::sample` loses it; the copy is right
-still, and takes several times as long. And no instruction multiplies and adds at once: a power is two products and a sum,
+The row copies swap in vectors (docs/SPEED.md): a small edit of `copies::pair` or `copies::sample`, or of `complex_rows::quad`
+or `complex_rows::number`, loses it; the copy is right still, and takes several times as long. And no instruction multiplies and adds at once: a power is two products and a sum,
 each rounded once (document 02, No. 2), where a fused multiply-add rounds once for both; a compiler that contracts them
 gives other bits (tests/boundary/differential/powers.py has some)."""
 import re
@@ -12,8 +12,8 @@ from pathlib import Path
 
 HOME = Path(__file__).resolve().parent.parent.parent
 ARCHIVE, SHARED = (HOME / 'target' / 'lib' / f'libseobangyu.{end}' for end in ('a', 'so'))
-# eight samples at once, each shifted by a byte to the left and to the right
-SWAP = ('psllw', 'psrlw')
+# counts, eight at once, each shifted by a byte to the left and to the right; patterns, four at once, their bytes shuffled and packed
+SWAPS = {'sbg_row': ('psllw', 'psrlw'), 'sbg_complex_row': ('pshuflw', 'packuswb')}
 # x86-64: vfmadd132ss, vfnmsub231ps, .. and vfmaddsub..; AMD's older vfmaddss. aarch64: fmadd, fnmsub, fmla, fmls.
 FUSED = r'vfn?m(?:add|sub)\w*|fn?m(?:add|sub)|fml[as]\w*'
 # x86-64: mulss or mulps, with or without a v; aarch64: fmul.
@@ -37,13 +37,13 @@ def named(text: str, instruction: str) -> list[str]:
     return re.findall(rf'^ *[0-9a-f]+:\t({instruction})\b', text, re.M)
 
 
-def swaps() -> bool:
-    body = code(disassembled(ARCHIVE), 'sbg_row')
-    missing = [word for word in SWAP if not named(body, word)]
+def swaps(call: str) -> bool:
+    body = code(disassembled(ARCHIVE), call)
+    missing = [word for word in SWAPS[call] if not named(body, word)]
     if missing:
-        print(f'sbg_row, {len(body.splitlines())} instructions: it has no {" and no ".join(missing)}, so the row copy is not in vectors')
+        print(f'{call}, {len(body.splitlines())} instructions: it has no {" and no ".join(missing)}, so the copy is not in vectors')
         return False
-    print(f'sbg_row, {len(body.splitlines())} instructions: the row copy swaps in vectors')
+    print(f'{call}, {len(body.splitlines())} instructions: it swaps in vectors')
     return True
 
 
@@ -59,7 +59,7 @@ def nothing_fused() -> bool:
 
 
 def main() -> int:
-    results = [swaps(), nothing_fused()]
+    results = [*(swaps(call) for call in SWAPS), nothing_fused()]
     return 0 if all(results) else 1
 
 

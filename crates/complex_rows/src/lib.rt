@@ -4,7 +4,7 @@ use copies::Copied;
 use lines::View;
 ghost use mathlib.Core.Path.{_≡_};
 ghost use mathlib.Core.List.{_++_};
-ghost use Prim.Native.Nat.{_+_, _*_, _≤_};
+ghost use Prim.Native.Nat.{_+_, _*_, _≤_, _%_, _/_};
 ghost use lib.ListN.{length, drop};
 ghost use Rattle.words.specs.Words.{fourAt};
 ghost use Rattle.complex_rows.specs.Parts.{fours, parts, partsCopiedBy, partsRowBy, partsCopied, partsRow};
@@ -37,6 +37,28 @@ fn write_short(bytes: &[u8], start: u64, count: usize, row: &mut [u32])
     }
 }
 
+// Four bytes that are there, low byte first: the compiler reads those of several numbers at once. Read and swapped by
+// one function they would be read number by number (docs/SPEED.md).
+fn quad(bytes: &[u8], at: usize) -> u32
+    requires { ⌜ at + 4 ≤ length (now bytes) ⌝ }
+    ensures { λ r. ⌜ (r % 256 * 256 + r / 256 % 256) * 65536 + (r / 256 / 256 % 256 * 256 + r / 256 / 256 / 256) ≡ fourAt (now (bytes .entry)) at ⌝ }
+{
+    let a = bytes[at];
+    let b = bytes[at + 1];
+    let c = bytes[at + 2];
+    let d = bytes[at + 3];
+    (d as u32 * 256 + c as u32) * 65536 + (b as u32 * 256 + a as u32)
+}
+
+// A number of four bytes that are there, high byte first.
+fn number(bytes: &[u8], at: usize) -> u32
+    requires { ⌜ at + 4 ≤ length (now bytes) ⌝ }
+    ensures { λ r. ⌜ r ≡ fourAt (now (bytes .entry)) at ⌝ }
+{
+    let x = quad(bytes, at);
+    (x % 256 * 256 + x / 256 % 256) * 65536 + (x / 256 / 256 % 256 * 256 + x / 256 / 256 / 256)
+}
+
 // The same of numbers that have all come, each read without a test.
 fn write(bytes: &[u8], start: usize, count: usize, row: &mut [u32])
     requires { ⌜ (start + 4 * count ≤ length (now bytes)) × (count ≤ length (now row)) ⌝ }
@@ -44,8 +66,7 @@ fn write(bytes: &[u8], start: usize, count: usize, row: &mut [u32])
 {
     let mut j = 0;
     while j < count {
-        let n = words::four_there(bytes, start + 4 * j);
-        row[j] = n as u32;
+        row[j] = number(bytes, start + 4 * j);
         j += 1;
     }
 }

@@ -19,17 +19,14 @@ abbrev μ-loop : tie.MeasureT-loop
 loop-holds : tie.Need-loop-holds Inv-loop μ-loop
 loop-holds c = (search needs, row-none _ _ _, search needs)
 
-mul-four-there : tie.Need-mul-four-there Inv-loop μ-loop
-mul-four-there c = search needs
+mul-number : tie.Need-mul-number Inv-loop μ-loop
+mul-number c = search needs
 
-add-four-there : tie.Need-add-four-there Inv-loop μ-loop
-add-four-there c = search needs
+add-number : tie.Need-add-number Inv-loop μ-loop
+add-number c = search needs
 
-four-there-requires : tie.Need-four-there-requires Inv-loop μ-loop
-four-there-requires c κs = search needs
-
-cast-row : tie.Need-cast-row Inv-loop μ-loop
-cast-row c = search needs
+number-requires : tie.Need-number-requires Inv-loop μ-loop
+number-requires c κs = search needs
 
 mul-row : tie.Need-mul-row Inv-loop μ-loop
 mul-row c = search needs
@@ -48,7 +45,7 @@ loop-again c =
     let args = c .before .before .before .before .before .args in
     let loop = c .before .before .loop in (
       search needs,
-      row-more (args .bytes .now) (args .start) (loop .j) _ (c .four-there .result) _ (loop .row) (omega arith) refl (loop .inv .1) (c .four-there .ensures .0),
+      row-more (args .bytes .now) (args .start) (loop .j) _ (c .number .result) _ (loop .row) (omega arith) refl (loop .inv .1) (c .number .ensures),
       search needs,
     )
 
@@ -68,10 +65,9 @@ write-spec =
     Inv-loop
     μ-loop
     loop-holds
-    mul-four-there
-    add-four-there
-    four-there-requires
-    cast-row
+    mul-number
+    add-number
+    number-requires
     mul-row
     slice-write-row
     add-j
