@@ -3,24 +3,27 @@
 use Prim.Native.Nat.{ℕ, zero, suc, _+_, _-_, _*_, _≤_, _<_}
 use mathlib.Core.Path.{_≡_, refl, sym, ap, _∙_, subst}
 use mathlib.Core.List.{List}
-use mathlib.Core.Bool.{true, false, false≢true}
+use mathlib.Core.Bool.{Bool, true, false, false≢true}
 use mathlib.Core.Logic.{_⊎_, inl, inr, ⊎-elim}
 use native.Mathlib.Omega.{arith}
 use native.Mathlib.Nat.{zero-mul, suc-mul}
 use lib.ListN.{length, take, drop, length-drop}
 use lib.Seq.{drop-drop}
-use lib.Dec.{ltb}
-use borrow.Author.Tests.{lt-ltb, le-ltb, ltb-true, ltb-false}
+use lib.Dec.{ltb, eqb}
+use borrow.Author.Tests.{lt-ltb, le-ltb, ltb-true, ltb-false, eq-eqb, eqb-true, eqb-false}
 use Rattle.words.specs.Tests.{bothOf}
-use Rattle.words.proofs.Laws.{cases, both-l, both-r}
+use Rattle.words.specs.Words.{byteAt, fourAt}
+use Rattle.words.proofs.Laws.{cases, both-l, both-r, both-make, four-bytes}
 use Rattle.decimal.proofs.Laws.{last-part}
+use Rattle.plan.specs.Tables.{sortOf}
 use Rattle.plan.specs.Plan.{lineCodes}
+use Rattle.plan.proofs.CodeLaws.{sort-code}
 use Rattle.verdicts.specs.Tests.{firstFault, allHold}
 use Rattle.verdicts.specs.declared.Verdict.the-variants.{Fine}
 use Rattle.verdicts.proofs.Holding.{all-fine}
 use Rattle.image.specs.Image.{lineTests}
-use Rattle.headers.specs.Header.{headerTests, headerOf}
-use Rattle.ahead.specs.Lines.{lineFine, linesFine}
+use Rattle.headers.specs.Header.{codesAre, headerTests, headerOf}
+use Rattle.ahead.specs.Lines.{codesNumber, lineFine, linesFine}
 
 -- what the code hands on as `&bytes[at..]`
 abbrev pub rest : List ℕ → ℕ → List ℕ
@@ -31,6 +34,41 @@ rest-is b at = last-part b at
 
 pub rest-room : (b : List ℕ) (at x : ℕ) → at ≤ length b → x ≤ length (rest b at) → at + x ≤ length b
 rest-room b at x h r = omega (arith, ap length (rest-is b at), length-drop at b)
+
+-- ---- a line's codes as one number
+
+-- of bytes, the number is the same exactly where the four codes are
+pub codes-held : (b : List ℕ) (sort : ℕ) → byteAt b 4 < 256 → byteAt b 5 < 256 → byteAt b 6 < 256 → byteAt b 7 < 256
+    → eqb (fourAt b 4) (codesNumber sort) ≡ codesAre b (lineCodes sort)
+unfolding codesAre
+codes-held b sort h₄ h₅ h₆ h₇ = go (eqb (fourAt b 4) (codesNumber sort)) refl
+  where
+    code : ℕ
+    code = sortOf sort .code
+
+    coded : Bool
+    coded = bothOf (bothOf (eqb (byteAt b 4) 50) (eqb (byteAt b 5) code)) (bothOf (eqb (byteAt b 6) 18) (eqb (byteAt b 7) 20))
+
+    alike : (t : Bool) → coded ≡ t → eqb (fourAt b 4) (codesNumber sort) ≡ false → false ≡ t
+    alike false q e = refl
+    alike true q e =
+        let x = both-l (bothOf (eqb (byteAt b 4) 50) (eqb (byteAt b 5) code)) _ q in
+        let y = both-r (bothOf (eqb (byteAt b 4) 50) (eqb (byteAt b 5) code)) _ q in
+        let a = eqb-true (byteAt b 4) 50 (both-l (eqb (byteAt b 4) 50) _ x) in
+        let c = eqb-true (byteAt b 5) code (both-r (eqb (byteAt b 4) 50) _ x) in
+        let d = eqb-true (byteAt b 6) 18 (both-l (eqb (byteAt b 6) 18) _ y) in
+        let f = eqb-true (byteAt b 7) 20 (both-r (eqb (byteAt b 6) 18) _ y) in
+        absurd (eqb-false (fourAt b 4) (codesNumber sort) e (omega (arith, four-bytes b 4, a, c, d, f)))
+
+    go : (t : Bool) → eqb (fourAt b 4) (codesNumber sort) ≡ t → t ≡ coded
+    go true e =
+        let n = eqb-true (fourAt b 4) (codesNumber sort) e in
+        let m = four-bytes b 4 in
+        let k = sort-code sort in
+        sym (both-make _ _
+        (both-make _ _ (eq-eqb (byteAt b 4) 50 (omega (arith, n, m, k, h₄, h₅, h₆, h₇))) (eq-eqb (byteAt b 5) code (omega (arith, n, m, k, h₄, h₅, h₆, h₇))))
+        (both-make _ _ (eq-eqb (byteAt b 6) 18 (omega (arith, n, m, k, h₄, h₅, h₆, h₇))) (eq-eqb (byteAt b 7) 20 (omega (arith, n, m, k, h₄, h₅, h₆, h₇)))))
+    go false e = alike coded refl e
 
 -- ---- line k's record begins these bytes, is whole, and holds what it must
 

@@ -40,6 +40,13 @@ sort-ahead zero h = omega arith
 sort-ahead (suc zero) h = omega arith
 sort-ahead (suc (suc i)) h = absurd (omega arith)
 
+-- a sort's code is a byte
+pub sort-code : (i : ℕ) → sortOf i .code ≤ 255
+unfolding sortOf
+sort-code zero = omega arith
+sort-code (suc zero) = omega arith
+sort-code (suc (suc i)) = omega arith
+
 -- every sort's text has four bytes
 pub sort-text : (i : ℕ) → length (sortOf i .text) ≡ 4
 unfolding sortOf

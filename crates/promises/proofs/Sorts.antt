@@ -41,13 +41,6 @@ text-same zero h = refl
 text-same (suc zero) h = refl
 text-same (suc (suc i)) h = absurd (omega arith)
 
--- a sort's code is a byte
-pub sort-code : (i : ℕ) → sortOf′ i .code ≤ 255
-unfolding sortOf′
-sort-code zero = omega arith
-sort-code (suc zero) = omega arith
-sort-code (suc (suc i)) = omega arith
-
 -- a text has four bytes at most
 pub text-short : (i : ℕ) → length (bytes (sortOf i .text)) ≤ 4
 text-short zero = omega arith

@@ -25,6 +25,7 @@ use Rattle.plan.specs.declared.Plan.{Plan}
 use Rattle.plan.specs.declared.Slot.{Slot}
 use Rattle.plan.specs.declared.Spot.{Spot}
 use Rattle.plan.proofs.Bounds.{slot-each, small-good, total-small}
+use Rattle.plan.proofs.CodeLaws.{sort-code}
 use Rattle.plan.proofs.GoodLaws.{image-bounds, image-within, image-room}
 use Rattle.verdicts.specs.Tests.{firstFault, textAt, textTest}
 use Rattle.verdicts.specs.Numbers.{numbersTests}
@@ -37,7 +38,6 @@ use Rattle.verdicts.proofs.Holding.{Holds, holds-fine}
 use Rattle.headers.specs.Header.{headerOf}
 use Rattle.promises.specs.Bytes.{Bytes}
 use Rattle.promises.specs.Witness.{four, made, classBytes, pointerParts, pointerRest, lineParts, lineRest}
-use Rattle.promises.proofs.Sorts.{sort-code}
 use Rattle.promises.proofs.Made.{four-sum, four-bytes, made-header, made-length, made-bytes, bytes-concat, bytes-same, Small}
 
 -- ---- the run of a record that is due

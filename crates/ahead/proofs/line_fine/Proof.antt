@@ -1,12 +1,8 @@
 -- Each test that fails answers no; behind them stand those of the header and of the line.
-use Rattle.headers.specs.Header.{headerTests}
-use Rattle.verdicts.specs.Tests.{allHold}
-use Rattle.plan.specs.declared.Codes.{Codes}
 use Rattle.words.specs.Tests.{bothOf}
-use Prim.Native.Nat.{_+_}
 use lib.Seq.{length-take-le}
 use native.Mathlib.Omega.{arith}
-use mathlib.Core.Path.{sym, ap, ap₂, _∙_}
+use mathlib.Core.Path.{sym, ap₂, _∙_}
 use borrow.Author.Needs.{needs}
 use Rattle.ahead.proofs.LineLaws as laws
 use Rattle.ahead.proofs.line_fine.Statement.{statement}
@@ -21,11 +17,8 @@ returns-2 c = laws.no-room _ _ _ _ (c .before .before .before .args .b .now) (c 
 slice-aggregate-r : tie.Need-slice-aggregate-r
 slice-aggregate-r c = sym (length-take-le _ (c .before .before .before .before .args .b .now) (omega (arith, c .before .before .if1 .left)))
 
-add-header-there : tie.Need-add-header-there
-add-header-there c = search needs
-
-header-there-requires : tie.Need-header-there-requires
-header-there-requires c κs = search needs
+header-fine-requires : tie.Need-header-fine-requires
+header-fine-requires c κs = search needs
 
 line-there-requires : tie.Need-line-there-requires
 line-there-requires c κs = omega (
@@ -40,23 +33,13 @@ both-requires c κs = search needs
 
 returns-3 : tie.Need-returns-3
 returns-3 c =
-    let header-there = c .before .before .header-there in
     let args = c .before .before .before .before .before .before .before .args in
-    let pre = c .before .before .before .before .before .before .before .pre in
+    let header-fine = c .before .before .header-fine in
     let line-there = c .before .line-there in
     let if1 = c .before .before .before .before .before .if1 in
     let if2 = c .before .before .before .before .if2 in
-    c .both .ensures
-    ∙ ap₂ bothOf
-    (header-there .ensures
-    ∙ ap (λ (y : Codes). allHold
-    (headerTests (args .k + 1) y
-    (args .l) (args .b .now)))
-    (pre .0))
-    (line-there .ensures)
-    ∙ laws.tested (args .sort) (args .w) (args .l)
-    (args .k) (args .b .now)
-    (if1 .left) (if2 .left)
+    c .both .ensures ∙ ap₂ bothOf (header-fine .ensures) (line-there .ensures)
+    ∙ laws.tested (args .sort) (args .w) (args .l) (args .k) (args .b .now) (if1 .left) (if2 .left)
 
 pub line-fine-spec : {M : Type 1} → statement M
 line-fine-spec =
@@ -65,8 +48,7 @@ line-fine-spec =
     returns
     returns-2
     slice-aggregate-r
-    add-header-there
-    header-there-requires
+    header-fine-requires
     line-there-requires
     both-requires
     returns-3)

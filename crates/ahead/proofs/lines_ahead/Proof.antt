@@ -15,8 +15,8 @@ Inv-loop sort w l k most b codes c₀ at₀ c at = (c ≤ most) × (at ≤ lengt
 abbrev μ-loop : tie.MeasureT-loop
 μ-loop sort w l k most b codes c₀ at₀ c at = most - c
 
-line-codes-requires : tie.Need-line-codes-requires Inv-loop μ-loop
-line-codes-requires c κs = search needs
+codes-of-requires : tie.Need-codes-of-requires Inv-loop μ-loop
+codes-of-requires c κs = search needs
 
 loop-holds : tie.Need-loop-holds Inv-loop μ-loop
 loop-holds c = (
@@ -39,7 +39,7 @@ part-line-fine-end : tie.Need-part-line-fine-end Inv-loop μ-loop
 part-line-fine-end c = search needs
 
 line-fine-requires : tie.Need-line-fine-requires Inv-loop μ-loop
-line-fine-requires c κs = (c .before .before .before .line-codes .ensures, omega arith)
+line-fine-requires c κs = (c .before .before .before .codes-of .ensures, omega arith)
 
 returns : tie.Need-returns Inv-loop μ-loop
 returns c =
@@ -102,7 +102,7 @@ lines-ahead-spec =
     (tie.spec
     Inv-loop
     μ-loop
-    line-codes-requires
+    codes-of-requires
     loop-holds
     add-line-fine
     sub-line-fine
