@@ -7,9 +7,9 @@ use native.Mathlib.Numerals.{add-one}
 use lib.Dec.{eqb}
 use native.Mathlib.Nat.{pow-suc, pow-le-pow-right}
 use native.Mathlib.Omega.{arith}
-use lib.ListN.{length, getD, take, drop}
+use lib.ListN.{length, getD, drop}
 use lib.Seq.{slice, slice-cons, slice-empty, length-slice, take-length}
-use borrow.Author.Tests.{eqb-true, eqb-false, eq-eqb, ne-eqb, le-leb, lt-leb}
+use borrow.Author.Tests.{eq-eqb, ne-eqb, le-leb, lt-leb}
 use Rattle.words.specs.Tests.{pick}
 use Rattle.words.proofs.Laws.{within-true}
 use Rattle.digits.specs.Segments.{afterBlanks, digit?, digitsOf, Under, Small, withSign, signOf, signs, signedDigits, exponentOf, Is}

@@ -1,6 +1,6 @@
 -- A mantissa read in one go: up to the point only the blanks before the first byte that is none count, and a point that is a blank is no point.
 use Prim.Native.Nat.{ℕ, zero, suc, _+_, _-_, _^_, _≤_, _<_}
-use mathlib.Core.Path.{_≡_, refl, sym, ap, _∙_, subst}
+use mathlib.Core.Path.{_≡_, refl, sym, ap, _∙_}
 use mathlib.Core.List.{List, [], _∷_}
 use mathlib.Core.Bool.{Bool, true, false}
 use native.Mathlib.Omega.{arith}
@@ -14,7 +14,7 @@ use Rattle.digits.specs.declared.Digits.{Digits}
 use Rattle.digits.specs.declared.Digits.the-variants.{Count, Stray}
 use Rattle.digits.specs.declared.Part.{Part}
 use Rattle.digits.specs.declared.Part.the-variants.{Signed, Wrong}
-use Rattle.digits.proofs.Laws.{one, none, few, room, none-yet, one-byte, signed}
+use Rattle.digits.proofs.Laws.{one, none, few, none-yet, one-byte, signed}
 
 shorter : (cs : List ℕ) → length (afterBlanks cs) ≤ length cs
 shorter [] = omega arith
@@ -113,9 +113,9 @@ module _ (f : List ℕ) (k h end : ℕ) where
   early l m =
       let c = getD f k 0 in
       let q : signOf (slice k h f) ≡ withSign (eqb c 45) (digitsOf 0 (slice (k + signs c) h f)) =
-        ap signOf (one f k h l m) ∙ signed c (slice (k + 1) h f)
-        ∙ ap (λ (x : List ℕ). withSign (eqb c 45) (digitsOf 0 (drop (signs c) x))) (sym (one f k h l m))
-        ∙ ap (λ (x : List ℕ). withSign (eqb c 45) (digitsOf 0 x)) (drop-drop (signs c) k (take h f)) in
+      ap signOf (one f k h l m) ∙ signed c (slice (k + 1) h f)
+      ∙ ap (λ (x : List ℕ). withSign (eqb c 45) (digitsOf 0 (drop (signs c) x))) (sym (one f k h l m))
+      ∙ ap (λ (x : List ℕ). withSign (eqb c 45) (digitsOf 0 x)) (drop-drop (signs c) k (take h f)) in
       rw (q, le-leb (k + signs c) h (omega (arith, one-byte c))) (joins (eqb c 45) (digitsOf 0 (slice (k + signs c) h f)) (eqb (getD f h 0) 46) (slice (h + 1) end f))
 
 -- the byte at the point's own place

@@ -12,7 +12,7 @@ use Rattle.words.specs.Tests.{pick}
 use Rattle.digits.specs.Segments.{afterBlanks, digit?, digitsOf, withSign, signs, headOf, onPart, mantissaOf, Skipped}
 use Rattle.digits.specs.declared.Digits.the-variants.{Stray}
 use Rattle.digits.specs.declared.Part.{Part}
-use Rattle.digits.specs.declared.Part.the-variants.{Signed, Wrong}
+use Rattle.digits.specs.declared.Part.the-variants.{Wrong}
 use Rattle.digits.proofs.Laws.{one, none}
 
 -- digits behind a sign, one at least

@@ -1,6 +1,6 @@
 -- An exponent's four bytes are tested from the left: each return is the definition's branch.
 use Prim.Native.Nat.{_+_, _-_}
-use mathlib.Core.Path.{sym, ap, _∙_}
+use mathlib.Core.Path.{ap, _∙_}
 use mathlib.Core.Bool.{true, false}
 use native.Mathlib.Omega.{arith}
 use lib.Seq.{slice}
@@ -36,7 +36,7 @@ with-sign-requires : tie.Need-with-sign-requires
 with-sign-requires c κs = search needs
 
 returns-2 : tie.Need-returns-2
-returns-2 c = 
+returns-2 c =
     let args = c .before .before .before .before .before .before .before .args in
     let f = args .f .now in
     laws.made true (digitsOf 0 (slice (args .at + 2) (args .at + 4) f)) (c .with-sign .ensures ∙ ap (withSign true) (c .before .run .ensures))
@@ -56,7 +56,7 @@ with-sign-requires-2 : tie.Need-with-sign-requires-2
 with-sign-requires-2 c κs = search needs
 
 returns-3 : tie.Need-returns-3
-returns-3 c = 
+returns-3 c =
     let args = c .before .before .before .before .before .before .before .before .args in
     let f = args .f .now in
     laws.made false (digitsOf 0 (slice (args .at + 2) (args .at + 4) f)) (c .with-sign2 .ensures ∙ ap (withSign false) (c .before .run2 .ensures))

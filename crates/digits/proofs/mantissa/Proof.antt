@@ -18,7 +18,7 @@ sub-point-2 : tie.Need-sub-point-2
 sub-point-2 c = search needs
 
 returns : tie.Need-returns
-returns c = 
+returns c =
     let args = c .before .before .args in
     let pre = c .before .before .pre in
     record { is = sym (point.blank-point (args .f .now) (args .k) (args .places) (args .end) (pre .0) (pre .1 .0 .1) (pre .1 .1 .0) (c .if1 .taken)); small = tt }
@@ -36,7 +36,7 @@ with-sign-requires : tie.Need-with-sign-requires
 with-sign-requires c κs = search needs
 
 returns-2 : tie.Need-returns-2
-returns-2 c = 
+returns-2 c =
     let args = c .before .before .before .before .before .before .args in
     let pre = c .before .before .before .before .before .before .pre in
     let f = args .f .now in

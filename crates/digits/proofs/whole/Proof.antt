@@ -16,7 +16,7 @@ behind-requires : tie.Need-behind-requires
 behind-requires c κs = search needs
 
 returns : tie.Need-returns
-returns c = 
+returns c =
     let args = c .before .before .before .args in
     let pre = c .before .before .before .pre in
     record { is = sym (whole.sign-alone (args .f .now) (args .k) (pre .0) (pre .1 .0) (sym (c .before .behind .ensures) ∙ c .if1 .taken)); small = tt }
@@ -25,7 +25,7 @@ shared-slice-read-with-sign : tie.Need-shared-slice-read-with-sign
 shared-slice-read-with-sign c = search needs
 
 run-requires : tie.Need-run-requires
-run-requires c κs = 
+run-requires c κs =
     let args = c .before .before .before .before .args in
     omega (arith, laws.one-byte (getD (args .f .now) (args .k) 0), c .before .before .behind .ensures, c .before .if1 .left, laws.none-yet (c .before .before .behind .result + 18 - length (args .f .now)))
 
@@ -33,7 +33,7 @@ with-sign-requires : tie.Need-with-sign-requires
 with-sign-requires c κs = search needs
 
 returns-2 : tie.Need-returns-2
-returns-2 c = 
+returns-2 c =
     let args = c .before .before .before .before .before .before .args in
     let pre = c .before .before .before .before .before .before .pre in
     let f = args .f .now in
