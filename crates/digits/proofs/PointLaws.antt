@@ -116,10 +116,12 @@ module _ (f : List ℕ) (k h end : ℕ) where
       ap signOf (one f k h l m) ∙ signed c (slice (k + 1) h f)
       ∙ ap (λ (x : List ℕ). withSign (eqb c 45) (digitsOf 0 (drop (signs c) x))) (sym (one f k h l m))
       ∙ ap (λ (x : List ℕ). withSign (eqb c 45) (digitsOf 0 x)) (drop-drop (signs c) k (take h f)) in
-      rw (q, le-leb (k + signs c) h (omega (arith, one-byte c))) (joins (eqb c 45) (digitsOf 0 (slice (k + signs c) h f)) (eqb (getD f h 0) 46) (slice (h + 1) end f))
+      rw (q, le-leb (k + signs c) h (omega (arith, one-byte c)))
+      (joins (eqb c 45) (digitsOf 0 (slice (k + signs c) h f)) (eqb (getD f h 0) 46) (slice (h + 1) end f))
 
 -- the byte at the point's own place
-at-point : (f : List ℕ) (h end : ℕ) → onPart (signOf (slice h h f)) Wrong (λ s a. pick (eqb (getD f h 0) 46) (withSign s (digitsOf a (slice (h + 1) end f))) Wrong)
+at-point : (f : List ℕ) (h end : ℕ) → onPart (signOf (slice h h f)) Wrong
+    (λ s a. pick (eqb (getD f h 0) 46) (withSign s (digitsOf a (slice (h + 1) end f))) Wrong)
     ≡ withSign (eqb (getD f h 0) 45) (pointedOf f (h + signs (getD f h 0)) h end)
 at-point f h end = rw (none f h h (omega arith) (omega arith)) (go (eqb (getD f h 0) 45) (eqb (getD f h 0) 43) refl refl)
   where

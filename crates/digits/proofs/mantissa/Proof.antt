@@ -21,7 +21,11 @@ returns : tie.Need-returns
 returns c =
     let args = c .before .before .args in
     let pre = c .before .before .pre in
-    record { is = sym (point.blank-point (args .f .now) (args .k) (args .places) (args .end) (pre .0) (pre .1 .0 .1) (pre .1 .1 .0) (c .if1 .taken)); small = tt }
+    record {
+      is = sym (point.blank-point (args .f .now) (args .k) (args .places) (args .end) (pre .0) (pre .1 .0 .1) (pre .1 .1 .0)
+          (c .if1 .taken));
+      small = tt;
+    }
 
 shared-slice-read-with-sign : tie.Need-shared-slice-read-with-sign
 shared-slice-read-with-sign c = search needs
@@ -43,7 +47,8 @@ returns-2 c =
     let x = getD f (args .k) 0 in
     let h = args .end - args .places - 1 in
     laws.made (eqb x 45) (pointedOf f (args .k + signs x) h (args .end))
-    (c .with-sign .ensures ∙ ap (withSign (eqb x 45)) (c .before .pointed .ensures ∙ ap (λ y. pointedOf f y h (args .end)) (c .before .before .behind .ensures)))
+    (c .with-sign .ensures ∙ ap (withSign (eqb x 45))
+    (c .before .pointed .ensures ∙ ap (λ y. pointedOf f y h (args .end)) (c .before .before .behind .ensures)))
     (point.fits f (args .k + signs x) h (args .end) (omega arith) (pre .1 .1 .0) (pre .1 .1 .1))
     (point.from-byte f (args .k) (args .places) (args .end) (pre .0) (pre .1 .0 .1) (pre .1 .1 .0) (c .before .before .before .before .if1 .left))
 

@@ -24,7 +24,8 @@ shared-slice-read-if2 c = search needs
 returns-2 : tie.Need-returns-2
 returns-2 c =
     let args = c .before .before .before .before .before .before .before .before .args in
-    sym (point.pointless (args .f .now) (args .from) (args .point) (args .end) _ (c .before .before .before .before .before .before .if1 .left) (sym (c .before .before .before .before .before .run .ensures) ∙ c .before .before .before .a .given .1) (c .if2 .taken))
+    sym (point.pointless (args .f .now) (args .from) (args .point) (args .end) _ (c .before .before .before .before .before .before .if1 .left)
+    (sym (c .before .before .before .before .before .run .ensures) ∙ c .before .before .before .a .given .1) (c .if2 .taken))
 
 add-run : tie.Need-add-run
 add-run c = search needs
@@ -32,7 +33,9 @@ add-run c = search needs
 run-requires-2 : tie.Need-run-requires-2
 run-requires-2 c κs =
     let args = c .before .before .before .before .before .before .before .before .args in
-    let few = point.head-few (args .f .now) (args .from) (args .point) (args .end) (Count (c .before .before .before .a .given .0 .0)) (sym (c .before .before .before .a .given .1) ∙ c .before .before .before .before .before .run .ensures) (omega arith) (c .before .before .before .before .before .before .if1 .left) in
+    let few = point.head-few (args .f .now) (args .from) (args .point) (args .end) (Count (c .before .before .before .a .given .0 .0))
+    (sym (c .before .before .before .a .given .1) ∙ c .before .before .before .before .before .run .ensures) (omega arith)
+    (c .before .before .before .before .before .before .if1 .left) in
     ((omega arith, omega arith), (omega arith, laws.room (args .point + 1 + 18 - args .end) (omega arith) few))
 
 enum-told : tie.Need-enum-told
@@ -41,12 +44,15 @@ enum-told c = search needs
 returns-3 : tie.Need-returns-3
 returns-3 c =
     let args = c .before .before .before .before .before .before .before .before .before .args in
-    c .run2 .ensures ∙ sym (point.both (args .f .now) (args .from) (args .point) (args .end) _ (c .before .before .before .before .before .before .before .if1 .left) (sym (c .before .before .before .before .before .before .run .ensures) ∙ c .before .before .before .before .a .given .1) (c .before .if2 .left))
+    c .run2 .ensures ∙ sym (point.both (args .f .now) (args .from) (args .point) (args .end) _
+    (c .before .before .before .before .before .before .before .if1 .left)
+    (sym (c .before .before .before .before .before .before .run .ensures) ∙ c .before .before .before .before .a .given .1) (c .before .if2 .left))
 
 returns-4 : tie.Need-returns-4
 returns-4 c =
     let args = c .before .before .before .before .before .args in
-    sym (point.stray (args .f .now) (args .from) (args .point) (args .end) (c .before .before .before .if1 .left) (sym (c .before .before .run .ensures) ∙ c .enum-told .given .1))
+    sym (point.stray (args .f .now) (args .from) (args .point) (args .end) (c .before .before .before .if1 .left)
+    (sym (c .before .before .run .ensures) ∙ c .enum-told .given .1))
 
 pub pointed-spec : {M : Type 1} → statement M
 pointed-spec =

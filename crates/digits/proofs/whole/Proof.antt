@@ -27,7 +27,14 @@ shared-slice-read-with-sign c = search needs
 run-requires : tie.Need-run-requires
 run-requires c κs =
     let args = c .before .before .before .before .args in
-    omega (arith, laws.one-byte (getD (args .f .now) (args .k) 0), c .before .before .behind .ensures, c .before .if1 .left, laws.none-yet (c .before .before .behind .result + 18 - length (args .f .now)))
+    omega (
+      arith,
+      laws.one-byte (getD (args .f .now) (args .k) 0),
+      c .before .before .behind .ensures,
+      c .before .if1 .left,
+      laws.none-yet
+          (c .before .before .behind .result + 18 - length (args .f .now)),
+    )
 
 with-sign-requires : tie.Need-with-sign-requires
 with-sign-requires c κs = search needs
@@ -39,7 +46,8 @@ returns-2 c =
     let f = args .f .now in
     let x = getD f (args .k) 0 in
     laws.made (eqb x 45) (digitsOf 0 (slice (args .k + signs x) (length f) f))
-    (c .with-sign .ensures ∙ ap (withSign (eqb x 45)) (c .before .run .ensures ∙ ap (λ y. digitsOf 0 (slice y (length f) f)) (c .before .before .before .before .behind .ensures)))
+    (c .with-sign .ensures ∙ ap (withSign (eqb x 45))
+    (c .before .run .ensures ∙ ap (λ y. digitsOf 0 (slice y (length f) f)) (c .before .before .before .before .behind .ensures)))
     (laws.few f (args .k + signs x) (length f) 0 0 18 (omega arith) (laws.none-yet 0) (omega arith))
     (whole.from-byte f (args .k) (pre .0) (pre .1 .0) (λ e. c .before .before .before .if1 .left (c .before .before .before .before .behind .ensures ∙ e)))
 
