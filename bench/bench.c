@@ -35,16 +35,21 @@ static const struct {
     {"closed walk, 3,000 lines of 12,192 bytes, a line", &COUNTS, run_walk, touch_lines, 0.9},
     {"line view, lines at random, a view", &COUNTS, run_random, touch_random, 0.5},
     {"line view, line 1", &COUNTS, run_line, touch_line, 0.5},
-    {"thirteen listed fields, a field", &COUNTS, run_fields, touch_fields, 0.5},
+    {"the summary's ten listed fields, a field", &COUNTS, run_summary, touch_summary, 1.0},
+    {"the map record's three listed fields, a field", &COUNTS, run_map, touch_map, 1.0},
 };
 #define JOB_COUNT (sizeof JOBS / sizeof *JOBS)
+#define TEN (JOB_COUNT - 2)
+#define LEADER JOB_COUNT /* the leader's walk is counted too: ours alone, since plain C's knows images only */
 
 static int rounds = 101, emulated;
 static double least = 0.003; /* seconds that a timed piece takes at least */
-static double counts[JOB_COUNT][READERS]; /* instructions, 0 where they were not counted */
+static double counts[JOB_COUNT + 1][READERS]; /* instructions, 0 where they were not counted */
+static double ratios[JOB_COUNT][READERS];      /* each opponent's time / ours, the median */
 
-static size_t units(void (*run)(const struct job *, long), const struct image *scene) {
-  return run == run_walk ? scene->n : run == run_fields ? 13 : 1;
+/* How many units of what is reported are in one turn of a job, on a scene of so many lines. */
+static size_t units(void (*run)(const struct job *, long), size_t lines) {
+  return run == run_walk ? lines : run == run_summary ? 10 : run == run_map ? 3 : 1;
 }
 
 /* ---- the clock ---- */
@@ -142,6 +147,7 @@ static void compare(const char *what, struct job j, void (*limit)(const struct j
   measure(jobs, limit == NULL ? READERS : CONTENDERS, ns);
   int best = strongest(ns);
   struct spread ratio = ratio_of(ns[0], ns[best]);
+  for (int c = 0; which >= 0 && c < READERS; c++) ratios[which][c] = ratio_of(ns[0], ns[c]).median;
   printf("| %s |", what);
   print_times(spread_of(ns[0]));
   print_times(spread_of(ns[best]));
@@ -163,10 +169,22 @@ static void jobs(const struct image *counts_scene, const struct leader *leader) 
        "|---|---|---|---|---|---|---|---|");
   for (size_t i = 0; i < JOB_COUNT; i++) {
     const struct image *scene = JOBS[i].sort == &COMPLEX ? &complex_scene : counts_scene;
-    struct job j = {JOBS[i].run, NULL, scene, leader, 1, units(JOBS[i].run, scene), NULL};
+    struct job j = {JOBS[i].run, NULL, scene, leader, 1, units(JOBS[i].run, scene->n), NULL};
     compare(JOBS[i].name, j, JOBS[i].limit, JOBS[i].goal, (int)i);
   }
   free(complex_scene.bytes);
+}
+
+/* The listed fields against each opponent: ratio, and instructions where they were counted. */
+static void each_opponent(void) {
+  printf("\n| job | instructions, ours |");
+  for (int c = 1; c < READERS; c++) printf(" %s: ratio, instructions |", NAME[c]);
+  puts("\n|---|---|---|---|---|---|");
+  for (size_t i = TEN; i < JOB_COUNT; i++) {
+    printf("| %s | %.0f |", JOBS[i].name, counts[i][0]);
+    for (int c = 1; c < READERS; c++) printf(" %.2f, %.0f |", ratios[i][c], counts[i][c]);
+    puts("");
+  }
 }
 
 /* Whether the cost of a line view depends on the line's number: ours against ours. */
@@ -183,17 +201,36 @@ static void line_numbers(const struct image *scene) {
   print_goal(ratio.median, 0.9, 1.1);
 }
 
-/* One job against another, both ours. */
-static void in_turn(const char *head, const char *what, struct job one, struct job other, double goal) {
+/* One job against another, both ours; told: the instructions of both where they were counted, else NULL. */
+static void in_turn(const char *head, const char *what, struct job one, struct job other, const double *told, double goal) {
   static double ns[2][MOST_ROUNDS];
   struct job both[2] = {one, other};
   measure(both, 2, ns);
   struct spread ratio = ratio_of(ns[0], ns[1]);
-  printf("\n| job | %s | ratio | goal |\n|---|---|---|---|---|\n| %s |", head, what);
+  printf("\n| job | %s | ratio | %sgoal |\n|---|---|---|---|%s---|\n| %s |", head, told != NULL ? "instructions | " : "",
+         told != NULL ? "---|" : "", what);
   print_times(spread_of(ns[0]));
   print_times(spread_of(ns[1]));
   printf(" %.2f (%.2f to %.2f) |", ratio.median, ratio.min, ratio.max);
+  if (told != NULL && told[1] > 0) printf(" %.0f : %.0f |", told[0], told[1]);
+  else if (told != NULL) printf(" |");
   print_goal(ratio.median, goal, 1e9);
+}
+
+/* Whether reading a summary takes longer than walking the leader in which it stands. */
+static void leader_walk(const struct leader *leader) {
+  uint64_t state[SBG_STATE], answer[SBG_ANSWER];
+  sbg_begin(SBG_LEADER, state, SBG_STATE, answer, SBG_ANSWER);
+  sbg_walk(state, SBG_STATE, leader->file, LEADER_FILE, 1, 100, answer, SBG_ANSWER);
+  if (answer[SBG_TAG] != SBG_COMPLETE || answer[SBG_COUNT] != 3) {
+    fprintf(stderr, "bench: the leader is not accepted\n");
+    exit(1);
+  }
+  struct job reading = {run_summary, &OURS, NULL, leader, 1, 1, NULL}, walking = reading;
+  double told[2] = {counts[TEN][0] * 10, counts[LEADER][0]};
+  walking.run = run_leader;
+  in_turn("the summary's ten fields, ns | the closed walk of its leader, ns", "a leader of three records, all fields written", reading,
+          walking, told, 1);
 }
 
 /* A card's numbers against the walk and the line views that give the same; then whether its cost grows as the card. */
@@ -202,10 +239,10 @@ static void cards(const struct image *scene, const struct leader *leader) {
   struct card card = make_card(scene, leader), small = make_card(&few, leader), large = make_card(&many, leader);
   struct job reading = {run_card, &OURS, scene, leader, 1, scene->n, &card}, viewing = reading;
   viewing.run = run_views;
-  in_turn("the card's numbers, ns | the walk and every line view, ns", "3,000 lines of 12,192 bytes, a line", reading, viewing, 20);
+  in_turn("the card's numbers, ns | the walk and every line view, ns", "3,000 lines of 12,192 bytes, a line", reading, viewing, NULL, 20);
   struct job of_large = {run_card, &OURS, &many, leader, 1, many.n, &large};
   struct job of_small = {run_card, &OURS, &few, leader, 1, few.n, &small};
-  in_turn("a card of 30,000 lines, ns | a card of 300 lines, ns", "the card's numbers, a line", of_large, of_small, 0.5);
+  in_turn("a card of 30,000 lines, ns | a card of 300 lines, ns", "the card's numbers, a line", of_large, of_small, NULL, 0.5);
   free_card(&card), free_card(&small), free_card(&large);
   free(few.bytes), free(many.bytes);
 }
@@ -236,12 +273,12 @@ static void growth(void) {
 __attribute__((noinline)) void counted(const struct job *j, long times) { j->run(j, times); }
 
 static int count(size_t which, size_t who, long times) {
-  if (which >= JOB_COUNT || who >= READERS) return 2;
-  struct image scene = scene_of(JOBS[which].sort, 300);
+  if (which > JOB_COUNT || who >= READERS || (which == LEADER && who > 0)) return 2;
+  struct image scene = scene_of(which == LEADER ? &COUNTS : JOBS[which].sort, 300);
   struct leader leader;
   make_leader(&leader);
   draw_lines(scene.n);
-  struct job j = {JOBS[which].run, READER[who], &scene, &leader, 1, 1, NULL};
+  struct job j = {which == LEADER ? run_leader : JOBS[which].run, READER[who], &scene, &leader, 1, 1, NULL};
   counted(&j, times);
   return 0;
 }
@@ -253,8 +290,8 @@ static void read_counts(const char *path) {
   double n;
   if (f == NULL) return;
   while (fscanf(f, "%zu %zu %lf", &which, &who, &n) == 3)
-    if (which < JOB_COUNT && who < READERS)
-      counts[which][who] = n / (double)(JOBS[which].run == run_walk ? 300 : JOBS[which].run == run_fields ? 13 : 1);
+    if (which <= JOB_COUNT && who < READERS)
+      counts[which][who] = n / (double)(which == LEADER ? 1 : units(JOBS[which].run, 300));
   fclose(f);
 }
 
@@ -283,7 +320,9 @@ int main(int argc, char **argv) {
   make_leader(&leader);
   draw_lines(scene.n);
   jobs(&scene, &leader);
+  each_opponent();
   line_numbers(&scene);
+  leader_walk(&leader);
   cards(&scene, &leader);
   free(scene.bytes);
   growth();

@@ -13,13 +13,11 @@ static void see(int holds, const char *what) {
 }
 
 struct card make_card(const struct image *scene, const struct leader *leader) {
-  uint8_t file[LEADER_FILE];
   uint64_t answer[SBG_ANSWER];
   size_t room = 17 + 13 * scene->n + 10 * 3, many = 4 + 2 * scene->n + 2 * 3;
   struct card card = {malloc(room), room, malloc(many * sizeof *card.list), many};
   see(card.bytes != NULL && card.list != NULL, "no memory for a card");
-  make_leader_file(file, leader);
-  sbg_card_build(scene->bytes, scene->len, file, sizeof file, card.bytes, room, answer, SBG_ANSWER);
+  sbg_card_build(scene->bytes, scene->len, leader->file, LEADER_FILE, card.bytes, room, answer, SBG_ANSWER);
   see(answer[SBG_TAG] == SBG_BUILT && answer[SBG_A] == room, "the card is not built");
   sbg_card_numbers(card.bytes, card.len, card.list, many, answer, SBG_ANSWER);
   see(answer[SBG_TAG] == SBG_CARD && card.list[0] == scene->n, "the card is not read");

@@ -82,16 +82,30 @@ void run_random(const struct job *j, long times) {
   }
 }
 
-void run_fields(const struct job *j, long times) {
+/* Listed fields first to last. */
+static void run_fields(const struct job *j, long times, uint64_t first, uint64_t last) {
   uint64_t answer[SBG_ANSWER];
   int64_t value[SBG_VALUE];
   for (; times > 0; times--) {
-    for (uint64_t number = 1; number <= 13; number++) {
+    for (uint64_t number = first; number <= last; number++) {
       size_t len;
       const uint8_t *record = record_of(j->leader, number, &len);
       j->reader->field(record, len, number, value, SBG_VALUE, answer, SBG_ANSWER);
       sink += answer[SBG_TAG] + (uint64_t)value[0];
     }
+  }
+}
+
+void run_summary(const struct job *j, long times) { run_fields(j, times, 1, 10); }
+
+void run_map(const struct job *j, long times) { run_fields(j, times, 11, 13); }
+
+void run_leader(const struct job *j, long times) {
+  uint64_t state[SBG_STATE], answer[SBG_ANSWER];
+  for (; times > 0; times--) {
+    j->reader->begin(SBG_LEADER, state, SBG_STATE, answer, SBG_ANSWER);
+    j->reader->walk(state, SBG_STATE, j->leader->file, LEADER_FILE, 1, 100, answer, SBG_ANSWER);
+    sink += answer[SBG_TAG] + answer[SBG_COUNT];
   }
 }
 
@@ -155,12 +169,16 @@ void touch_random(const struct job *j, long times) {
   for (long i = 0; i < times; i++) sink += viewed(j->image, numbers[i % RANDOM]);
 }
 
-void touch_fields(const struct job *j, long times) {
+static void touch_fields(const struct job *j, long times, uint64_t first, uint64_t last) {
   static const uint16_t FIELD[13] = {477, 711, 743, 935, 1887, 1907, 1927, 1947, 1967, 1987, 61, 77, 93};
   for (; times > 0; times--) {
-    for (uint64_t number = 1; number <= 13; number++) {
+    for (uint64_t number = first; number <= last; number++) {
       size_t len;
       sink += touched(record_of(j->leader, number, &len) + FIELD[number - 1] - 1, number == 1 ? 8 : 16);
     }
   }
 }
+
+void touch_summary(const struct job *j, long times) { touch_fields(j, times, 1, 10); }
+
+void touch_map(const struct job *j, long times) { touch_fields(j, times, 11, 13); }

@@ -99,6 +99,19 @@ static void put_all(uint8_t *record, const struct written *fields, size_t count)
   for (size_t i = 0; i < count; i++) put_text(record, fields[i].byte, fields[i].text);
 }
 
+static void put_file(struct leader *x) {
+  uint8_t *first = x->file;
+  memset(first, ' ', FIRST);
+  open_record(first, 1, 0x0bc01212, FIRST);
+  put_text(first, 13, "A ");
+  put_number(first, 181, 6, 1);
+  put_number(first, 187, 6, SUMMARY);
+  put_number(first, 193, 6, 1);
+  put_number(first, 199, 6, MAP);
+  memcpy(first + FIRST, x->summary, SUMMARY);
+  memcpy(first + FIRST + SUMMARY, x->map, MAP);
+}
+
 void make_leader(struct leader *x) {
   memset(x->summary, ' ', SUMMARY);
   memset(x->map, ' ', MAP);
@@ -106,18 +119,7 @@ void make_leader(struct leader *x) {
   open_record(x->map, 3, 0x12141214, MAP);
   put_all(x->summary, in_summary, sizeof in_summary / sizeof *in_summary);
   put_all(x->map, in_map, sizeof in_map / sizeof *in_map);
-}
-
-void make_leader_file(uint8_t *bytes, const struct leader *x) {
-  memset(bytes, ' ', FIRST);
-  open_record(bytes, 1, 0x0bc01212, FIRST);
-  put_text(bytes, 13, "A ");
-  put_number(bytes, 181, 6, 1);
-  put_number(bytes, 187, 6, SUMMARY);
-  put_number(bytes, 193, 6, 1);
-  put_number(bytes, 199, 6, MAP);
-  memcpy(bytes + FIRST, x->summary, SUMMARY);
-  memcpy(bytes + FIRST + SUMMARY, x->map, MAP);
+  put_file(x);
 }
 
 const uint8_t *record_of(const struct leader *x, uint64_t number, size_t *len) {

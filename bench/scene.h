@@ -21,24 +21,21 @@ struct image {
   size_t len;
 };
 
-/* The listed fields' two records. */
+/* The listed fields' two records, and the whole leader file: the descriptor that names the two, and they. */
 #define SUMMARY 4096
 #define MAP 1620
+#define LEADER_FILE (720 + SUMMARY + MAP)
 
 struct leader {
-  uint8_t summary[SUMMARY], map[MAP];
+  uint8_t summary[SUMMARY], map[MAP], file[LEADER_FILE];
 };
 
 /* A valid image; line k has k * left fill pixels on the left and none on the right. Ends the program
  * where there is no memory. */
 struct image make_image(const struct sort *sort, size_t n, size_t l, size_t w, size_t s, size_t left);
 
-/* A record each of a leader with the thirteen listed fields written. */
+/* A leader with the thirteen listed fields written. */
 void make_leader(struct leader *x);
-
-/* A whole leader file: the descriptor that names the two records, and they. */
-#define LEADER_FILE (720 + SUMMARY + MAP)
-void make_leader_file(uint8_t *bytes, const struct leader *x);
 
 /* The record in which a listed field stands. */
 const uint8_t *record_of(const struct leader *x, uint64_t number, size_t *len);

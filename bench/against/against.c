@@ -1,6 +1,7 @@
 /* Two builds of the library, timed in one run: against OLD.so NEW.so. Jobs that the fixed cost of a call and of
- * a first record decide: a line view, and a leader of 50 records, one record a call and in one call. Prints the
- * nanoseconds of each and old / new. Both are first seen to give the same answers. */
+ * a first record decide: a line view, a leader of 50 records, one record a call and in one call, and each kind's
+ * first record; then the listed fields of a leader in which they are written. Prints the nanoseconds of each and
+ * old / new. Both are first seen to give the same answers. */
 #define _GNU_SOURCE
 #include "seobangyu.h"
 
@@ -15,6 +16,7 @@ struct library {
   uint64_t (*walk)(uint64_t *, size_t, const uint8_t *, size_t, uint64_t, uint64_t, uint64_t *, size_t);
   uint64_t (*start)(const uint64_t *, size_t);
   uint64_t (*line)(const uint8_t *, size_t, uint64_t, uint64_t *, size_t);
+  uint64_t (*field)(const uint8_t *, size_t, uint64_t, int64_t *, size_t, uint64_t *, size_t);
 };
 
 static void *name_in(void *library, const char *name) {
@@ -31,6 +33,7 @@ static struct library opened(const char *path) {
   *(void **)&x.walk = name_in(library, "sbg_walk");
   *(void **)&x.start = name_in(library, "sbg_start");
   *(void **)&x.line = name_in(library, "sbg_line");
+  *(void **)&x.field = name_in(library, "sbg_field");
   return x;
 }
 
@@ -80,6 +83,25 @@ static struct file leader(void) {
   return x;
 }
 
+/* A leader of three records, in which the listed fields are written: its summary is at byte 720. */
+static struct file written(void) {
+  static const struct { int byte; const char *text; } SUMMARY[10] = {
+      {477, "  34.300"}, {711, "       0.2360571"}, {743, "       2.0000000"}, {935, "   16000.0000000"},
+      {1887, "-8.3000000000000E+01"}, {1907, " 1.2345678901234E-05"}, {1927, " 0.0000000000000E+00"},
+      {1947, "-7.7120000000001E-12"}, {1967, " 9.9999999999999E+02"}, {1987, " 3.1415926535898E+00"}};
+  struct file x = {malloc(6436), 6436};
+  uint8_t *first = x.bytes, *summary = first + 720, *map = summary + 4096;
+  header(first, 1, (const uint8_t[4]){11, 192, 18, 18}, 720);
+  memcpy(first + 12, "A ", 2);
+  field(first, 181, 6, 1); field(first, 187, 6, 4096); field(first, 193, 6, 1); field(first, 199, 6, 1620);
+  header(summary, 2, (const uint8_t[4]){18, 10, 18, 20}, 4096);
+  for (int i = 0; i < 10; i++) memcpy(summary + SUMMARY[i].byte - 1, SUMMARY[i].text, strlen(SUMMARY[i].text));
+  header(map, 3, (const uint8_t[4]){18, 20, 18, 20}, 1620);
+  field(map, 61, 16, 6000); field(map, 77, 16, 3000);
+  memcpy(map + 92, "      12.5000000", 16);
+  return x;
+}
+
 static struct file image(uint64_t n, uint64_t w) {
   uint64_t l = 192 + 2 * w;
   struct file x = {malloc(720 + n * l), 720 + n * l};
@@ -99,7 +121,7 @@ static struct file image(uint64_t n, uint64_t w) {
 
 /* ---- jobs ---- */
 
-static struct file LEADER, IMAGE;
+static struct file LEADER, WRITTEN, IMAGE;
 static volatile uint64_t sink;
 
 static void by_budget(const struct library *x, const struct file *f, uint64_t kind, uint64_t budget, uint64_t *state, uint64_t *answer) {
@@ -128,6 +150,35 @@ static void line_one(const struct library *x, long times) {
 static void line_any(const struct library *x, long times) {
   uint64_t answer[SBG_ANSWER], k = 7;
   for (; times > 0; times--) { k = (k * 1103515245 + 12345) % 300; x->line(IMAGE.bytes, IMAGE.len, k + 1, answer, SBG_ANSWER); sink += answer[SBG_A]; }
+}
+
+/* The first record of a file, from a fresh state. */
+static void first_of(const struct library *x, const struct file *f, uint64_t kind, long times) {
+  uint64_t state[SBG_STATE], answer[SBG_ANSWER];
+  for (; times > 0; times--) {
+    x->begin(kind, state, SBG_STATE, answer, SBG_ANSWER);
+    x->walk(state, SBG_STATE, f->bytes, f->len, 0, 1, answer, SBG_ANSWER);
+    sink += state[SBG_PASSED];
+  }
+}
+
+static void image_first(const struct library *x, long times) { first_of(x, &IMAGE, SBG_IMAGE, times); }
+
+static void leader_first(const struct library *x, long times) { first_of(x, &LEADER, SBG_LEADER, times); }
+
+static void all_written(const struct library *x, long times) {
+  uint64_t state[SBG_STATE], answer[SBG_ANSWER];
+  for (; times > 0; times--) { by_budget(x, &WRITTEN, SBG_LEADER, 100, state, answer); sink += state[SBG_PASSED]; }
+}
+
+static void ten_fields(const struct library *x, long times) {
+  uint64_t answer[SBG_ANSWER];
+  int64_t value[SBG_VALUE];
+  for (; times > 0; times--)
+    for (uint64_t number = 1; number <= 10; number++) {
+      x->field(WRITTEN.bytes + 720, 4096, number, value, SBG_VALUE, answer, SBG_ANSWER);
+      sink += answer[SBG_TAG] + (uint64_t)value[0];
+    }
 }
 
 static double seconds(void) {
@@ -174,13 +225,19 @@ int main(int argc, char **argv) {
   if (argc != 3) { fprintf(stderr, "usage: against OLD.so NEW.so\n"); return 2; }
   struct library old = opened(argv[1]), new = opened(argv[2]);
   LEADER = leader();
+  WRITTEN = written();
   IMAGE = image(300, 1000);
   see_same(&old, &new, &LEADER, SBG_LEADER, 50);
+  see_same(&old, &new, &WRITTEN, SBG_LEADER, 3);
   see_same(&old, &new, &IMAGE, SBG_IMAGE, 301);
   printf("| job | old, ns | new, ns | old / new |\n|---|---|---|---|\n");
   compare("line view, line 1", line_one, &old, &new, 1);
   compare("line view, any of 300 lines", line_any, &old, &new, 1);
   compare("a leader of 50 records, one a call: a record", one_a_call, &old, &new, 50);
   compare("the same, in one call: a record", all_in_one, &old, &new, 50);
+  compare("an image's first record", image_first, &old, &new, 1);
+  compare("a leader's first record", leader_first, &old, &new, 1);
+  compare("a leader of three records with its fields written, in one call", all_written, &old, &new, 1);
+  compare("its summary's ten fields, a field", ten_fields, &old, &new, 10);
   return 0;
 }

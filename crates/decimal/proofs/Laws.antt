@@ -1,10 +1,10 @@
--- The minus of the machine, a field that is blank or not, its last four bytes, and its width: each by computing the definition.
+-- The minus of the machine, a field that is blank or not, the last part of some bytes, and their width: each by computing the definition.
 use Prim.Native.Nat.{ℕ, zero, suc, _-_, _^_, _≤_, _<_}
 use mathlib.Core.Path.{_≡_, sym, ap, _∙_}
 use mathlib.Core.List.{List}
 use native.Mathlib.Omega.{arith}
 use lib.ListN.{length, take, drop, length-drop}
-use lib.Seq.{slice, take-length, take-all, length-take-le}
+use lib.Seq.{slice, take-length, take-all}
 use lib.IntN.{pos, negℤ, _-ℤ_, +ℤ-idl}
 use mir.Syntax.{w64}
 use mir.Val.{SFits, toZ}
@@ -41,12 +41,6 @@ module _ (k : Shape) (f : List ℕ) (r : ℕ) (rest : slice r (length f) f ≡ a
 
 pub last-part : (f : List ℕ) (e : ℕ) → take (length f - e) (drop e f) ≡ drop e f
 last-part f e = take-all (length f - e) (drop e f) (simp length-drop (omega arith))
-
-pub last-four : (f : List ℕ) → 4 ≤ length f → length (take (length f - (length f - 4)) (drop (length f - 4) f)) ≡ 4
-last-four f h = rw (last-part f (length f - 4), length-drop) (omega arith)
-
-pub front-length : (f : List ℕ) → length (take (length f - 4) f) ≡ length f - 4
-front-length f = length-take-le (length f - 4) f (omega arith)
 
 -- bytes of the form's width, and bytes that are not
 module _ (k : Form) (f : List ℕ) where

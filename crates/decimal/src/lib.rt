@@ -98,30 +98,8 @@ fn scaled(x: Part, y: Part) -> Written
     }
 }
 
-// What the bytes of a field say, whose width the caller has seen to.
-fn field(f: &[u8], shape: Shape) -> Written
-    requires { ⌜ Fit shape (length (now f)) ⌝ }
-    ensures { λ r. ⌜ r ≡ decimalOf shape (now (f .entry)) ⌝ }
-{
-    let n = f.len();
-    if digits::skip(f, 0, n) == n {
-        return Written::Blank;
-    }
-    match shape {
-        Shape::Whole => plain(digits::mantissa(f, false, 1)),
-        Shape::Fixed(d) => plain(digits::mantissa(f, true, d)),
-        Shape::Expo(d) => {
-            let e = n - 4;
-            scaled(
-                digits::mantissa(&f[..e], true, d),
-                digits::exponent(&f[e..]),
-            )
-        }
-    }
-}
-
-// What the bytes of a field of a whole number say, whose width the caller has seen to: `field` of that
-// shape, with the blanks looked at once (docs/SPEED.md).
+// What the bytes of a field of a whole number say, whose width the caller has seen to. Here and in the
+// two below the blanks are looked at once, and what follows them is read by its place (docs/SPEED.md).
 pub fn whole(f: &[u8]) -> Written
     requires { ⌜ Fit Shape.Whole (length (now f)) ⌝ }
     ensures { λ r. ⌜ r ≡ decimalOf Shape.Whole (now (f .entry)) ⌝ }
@@ -132,6 +110,45 @@ pub fn whole(f: &[u8]) -> Written
         return plain(digits::whole(f, k));
     }
     Written::Blank
+}
+
+// The same of a field of a number with so many places.
+pub fn fixed(f: &[u8], places: usize) -> Written
+    requires { ⌜ Fit (Shape.Fixed places) (length (now f)) ⌝ }
+    ensures { λ r. ⌜ r ≡ decimalOf (Shape.Fixed places) (now (f .entry)) ⌝ }
+{
+    let n = f.len();
+    let k = digits::skip(f, 0, n);
+    if k < n {
+        return plain(digits::mantissa(f, k, places, n));
+    }
+    Written::Blank
+}
+
+// The same of a field of a number with so many places and an exponent.
+pub fn expo(f: &[u8], places: usize) -> Written
+    requires { ⌜ Fit (Shape.Expo places) (length (now f)) ⌝ }
+    ensures { λ r. ⌜ r ≡ decimalOf (Shape.Expo places) (now (f .entry)) ⌝ }
+{
+    let n = f.len();
+    let k = digits::skip(f, 0, n);
+    if k < n {
+        let e = n - 4;
+        return scaled(digits::mantissa(f, k, places, e), digits::exponent(f, e));
+    }
+    Written::Blank
+}
+
+// What the bytes of a field say by its shape.
+fn field(f: &[u8], shape: Shape) -> Written
+    requires { ⌜ Fit shape (length (now f)) ⌝ }
+    ensures { λ r. ⌜ r ≡ decimalOf shape (now (f .entry)) ⌝ }
+{
+    match shape {
+        Shape::Whole => whole(f),
+        Shape::Fixed(d) => fixed(f, d),
+        Shape::Expo(d) => expo(f, d),
+    }
 }
 
 // What these bytes say as a field of this form. Bytes that are not as many as the form is wide are

@@ -1,22 +1,22 @@
 -- One step of each segment of the scanner along a slice, each by computing the definition at the byte that stands there.
 use Prim.Native.Nat.{ℕ, zero-le, _+_, _-_, _*_, _^_, _≤_, _<_}
-use mathlib.Core.Path.{_≡_, sym, ap, _∙_}
+use mathlib.Core.Path.{_≡_, refl, sym, ap, _∙_, subst}
 use mathlib.Core.List.{List, [], _∷_}
 use mathlib.Core.Bool.{Bool, true, false}
 use native.Mathlib.Numerals.{add-one}
 use lib.Dec.{eqb}
 use native.Mathlib.Nat.{pow-suc, pow-le-pow-right}
 use native.Mathlib.Omega.{arith}
-use lib.ListN.{length, getD, take, drop}
-use lib.Seq.{slice, slice-cons, slice-empty, take-length}
+use lib.ListN.{length, getD, drop}
+use lib.Seq.{slice, slice-cons, slice-empty, length-slice, take-length}
 use borrow.Author.Tests.{eq-eqb, ne-eqb, le-leb, lt-leb}
 use Rattle.words.specs.Tests.{pick}
-use Rattle.digits.specs.Segments.{afterBlanks, digitsOf, Under, Small, withSign, signOf, signedDigits, exponentOf, mantissaOf, point?, pointed}
-use Rattle.digits.specs.Segments.{headOf, Read, Is}
+use Rattle.words.proofs.Laws.{within-true}
+use Rattle.digits.specs.Segments.{afterBlanks, digit?, digitsOf, Under, Small, withSign, signOf, signs, signedDigits, exponentOf, Is}
 use Rattle.digits.specs.declared.Digits.{Digits}
 use Rattle.digits.specs.declared.Digits.the-variants.{Count, Stray}
 use Rattle.digits.specs.declared.Part.{Part}
-use Rattle.digits.specs.declared.Part.the-variants.{Signed, Wrong}
+use Rattle.digits.specs.declared.Part.the-variants.{Wrong}
 
 module _ (f : List ℕ) (i end : ℕ) (h : i < end) (k : end ≤ length f) where
   pub one : slice i end f ≡ getD f i 0 ∷ slice (i + 1) end f
@@ -41,6 +41,12 @@ module _ (f : List ℕ) (i end : ℕ) (h : i < end) (k : end ≤ length f) where
 pub grows : (a c i : ℕ) → a < 10 ^ i → c ≤ 57 → a * 10 + (c - 48) < 10 ^ (i + 1)
 grows a c i h k = rw (add-one, pow-suc) (omega arith)
 
+-- the same where the room for digits is counted from the end
+pub grows-to : (a c i end : ℕ) → end ≤ i + 18 → a < 10 ^ (i + 18 - end) → c ≤ 57 → a * 10 + (c - 48) < 10 ^ (i + 1 + 18 - end)
+grows-to a c i end l h k =
+    let e : i + 18 - end + 1 ≡ i + 1 + 18 - end = omega arith in
+    subst (λ x. a * 10 + (c - 48) < 10 ^ x) e (grows a c (i + 18 - end) h k)
+
 pub room : (k : ℕ) {a i : ℕ} → i ≤ k → a < 10 ^ i → a < 10 ^ k
 room k {a} {i} h l = let p : 10 ^ i ≤ 10 ^ k = pow-le-pow-right (omega arith) h in omega arith
 
@@ -58,51 +64,63 @@ module _ (f : List ℕ) (i end : ℕ) (h : i ≤ end) (k : end ≤ i) where
 pub none-yet : (i : ℕ) → 0 < 10 ^ i
 none-yet i = let p : 10 ^ 0 ≤ 10 ^ i = pow-le-pow-right (omega arith) zero-le in omega arith
 
--- a part made of a sign and of digits that were read
-pub made : (m : ℕ) (s : Bool) {f : List ℕ} {at end acc : ℕ} {d : Digits} {x r : Part} → r ≡ withSign s d → Read f at end acc d → end ≤ m
-    → x ≡ withSign s (digitsOf acc (slice at end f)) → Is m x r
-made m s {end = end} {d} {r} e u h q = record { is = e ∙ ap (withSign s) (u .reads) ∙ sym q; small = rw e (go d (u .small)) }
+-- digits behind d others make a number of that many digits at most
+under : (cs : List ℕ) (a d : ℕ) → a < 10 ^ d → Under (10 ^ (d + length cs)) (digitsOf a cs)
+under [] a d h = let e : d ≡ d + 0 = omega arith in subst (λ x. a < 10 ^ x) e h
+under (c ∷ cs) a d h = go (digit? c) refl (under cs (a * 10 + (c - 48)) (d + 1))
   where
-    go : (y : Digits) → Under (10 ^ end) y → Small (10 ^ m) (withSign s y)
-    go (Count a) v = room m h v
+    go : (b : Bool) → digit? c ≡ b → (a * 10 + (c - 48) < 10 ^ (d + 1) → Under (10 ^ (d + 1 + length cs)) (digitsOf (a * 10 + (c - 48)) cs))
+        → Under (10 ^ (d + length (c ∷ cs))) (pick b (digitsOf (a * 10 + (c - 48)) cs) Stray)
+    go true q r =
+        let e : d + 1 + length cs ≡ d + length (c ∷ cs) = omega arith in
+        subst (λ x. Under (10 ^ x) (digitsOf (a * 10 + (c - 48)) cs)) e (r (grows a c d h (within-true 48 c 57 q .1)))
+    go false q r = tt
+
+wider : (m n : ℕ) (d : Digits) → m ≤ n → Under (10 ^ m) d → Under (10 ^ n) d
+wider m n (Count a) h u = room n h u
+wider m n Stray h u = tt
+
+pub few : (f : List ℕ) (at end a d m : ℕ) → end ≤ length f → a < 10 ^ d → d + (end - at) ≤ m → Under (10 ^ m) (digitsOf a (slice at end f))
+few f at end a d m l h k =
+    wider (d + length (slice at end f)) m (digitsOf a (slice at end f)) (rw (length-slice at end f l) k) (under (slice at end f) a d h)
+
+-- a part made of a sign and of digits that were read
+pub made : (s : Bool) (d : Digits) {x r : Part} → r ≡ withSign s d → Under (10 ^ 18) d → x ≡ withSign s d → Is 18 x r
+made s d {x} {r} e u q = record { is = e ∙ sym q; small = rw e (go d u) }
+  where
+    go : (y : Digits) → Under (10 ^ 18) y → Small (10 ^ 18) (withSign s y)
+    go (Count a) v = v
     go Stray v = tt
 
--- the sign at the front
-module _ (f : List ℕ) (k end : ℕ) (h : k < end) (l : end ≤ length f) where
-  pub sign-minus : getD f k 0 ≡ 45 → signOf (slice k end f) ≡ withSign true (digitsOf 0 (slice (k + 1) end f))
-  sign-minus e = rw (one f k end h l, eq-eqb (getD f k 0) 45 e)
-
-  pub sign-plus : getD f k 0 ≡ 43 → signOf (slice k end f) ≡ withSign false (digitsOf 0 (slice (k + 1) end f))
-  sign-plus e = rw (one f k end h l, ne-eqb (getD f k 0) 45 (omega arith), eq-eqb (getD f k 0) 43 e)
-
-  pub sign-none : (getD f k 0 ≡ 45 → ⊥) → (getD f k 0 ≡ 43 → ⊥) → signOf (slice k end f) ≡ withSign false (digitsOf 0 (slice k end f))
-  sign-none m p = rw (one f k end h l, ne-eqb (getD f k 0) 45 m, ne-eqb (getD f k 0) 43 p)
-
-pub sign-end : (f : List ℕ) (k end : ℕ) → k ≤ end → end ≤ k → signOf (slice k end f) ≡ withSign false (digitsOf 0 (slice k end f))
-sign-end f k end h l = rw (none f k end h l)
-
-pub exp-is : (f : List ℕ) → length f ≡ 4 → exponentOf f ≡ pick (eqb (getD f 0 0) 69) (signedDigits (getD f 1 0) (slice 2 4 f)) Wrong
-unfolding exponentOf
-exp-is f h = ap exponentOf (sym four ∙ one f 0 4 (omega arith) (omega arith) ∙ ap (λ (l : List ℕ). getD f 0 0 ∷ l) (one f 1 4 (omega arith) (omega arith)))
+-- a sign is a byte
+pub one-byte : (c : ℕ) → signs c ≤ 1
+one-byte c = go (eqb c 45) (eqb c 43)
   where
-    four : take 4 f ≡ f
-    four = rw (← h) (take-length f)
+    go : (a b : Bool) → pick a 1 (pick b 1 0) ≤ 1
+    go true b = omega arith
+    go false true = omega arith
+    go false false = omega arith
 
--- a field's head and tail
-module _ (p : Bool) (d : ℕ) (f : List ℕ) where
-  pub tail-is : slice (length f - d) (length f) f ≡ drop (length f - d) f
-  tail-is = ap (drop (length f - d)) (take-length f)
+-- a sign or none at the front
+pub signed : (c : ℕ) (cs : List ℕ) → signOf (c ∷ cs) ≡ withSign (eqb c 45) (digitsOf 0 (drop (signs c) (c ∷ cs)))
+signed c cs = go (eqb c 45) (eqb c 43)
+  where
+    go : (a b : Bool)
+        → pick a (withSign true (digitsOf 0 cs)) (pick b (withSign false (digitsOf 0 cs)) (withSign false (digitsOf 0 (c ∷ cs))))
+        ≡ withSign a (digitsOf 0 (drop (pick a 1 (pick b 1 0)) (c ∷ cs)))
+    go true b = refl
+    go false true = refl
+    go false false = refl
 
-  pub mant : (s : Bool) (a : ℕ) → headOf (take (pointed p (length f - d)) f) ≡ Signed s a → point? p (getD f (pointed p (length f - d)) 0) ≡ true
-      → mantissaOf p d f ≡ withSign s (digitsOf a (slice (length f - d) (length f) f))
-  unfolding mantissaOf
-  mant s a e g = rw (e, g, tail-is)
-
-  pub mant-wrong : headOf (take (pointed p (length f - d)) f) ≡ Wrong → mantissaOf p d f ≡ Wrong
-  unfolding mantissaOf
-  mant-wrong e = rw e
-
-  pub mant-point : (s : Bool) (a : ℕ) → headOf (take (pointed p (length f - d)) f) ≡ Signed s a → point? p (getD f (pointed p (length f - d)) 0) ≡ false
-      → mantissaOf p d f ≡ Wrong
-  unfolding mantissaOf
-  mant-point s a e g = rw (e, g)
+-- an exponent by its bytes
+pub exp-is : (f : List ℕ) (at : ℕ) → at + 4 ≡ length f
+    → exponentOf (drop at f) ≡ pick (eqb (getD f at 0) 69) (signedDigits (getD f (at + 1) 0) (slice (at + 2) (at + 4) f)) Wrong
+unfolding exponentOf
+exp-is f at h =
+    let e : at + 1 + 1 ≡ at + 2 = omega arith in
+    ap exponentOf (sym four ∙ one f at (at + 4) (omega arith) (omega arith)
+    ∙ ap (λ (l : List ℕ). getD f at 0 ∷ l) (one f (at + 1) (at + 4) (omega arith) (omega arith)))
+    ∙ ap (λ (x : ℕ). pick (eqb (getD f at 0) 69) (signedDigits (getD f (at + 1) 0) (slice x (at + 4) f)) Wrong) e
+  where
+    four : slice at (at + 4) f ≡ drop at f
+    four = rw h (ap (drop at) (take-length f))

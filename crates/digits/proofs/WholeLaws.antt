@@ -7,12 +7,12 @@ use native.Mathlib.Omega.{arith}
 use lib.Dec.{eqb}
 use lib.ListN.{length, getD, take, drop}
 use lib.Seq.{slice, take-length}
-use borrow.Author.Tests.{eqb-true, eq-eqb, ne-eqb}
+use borrow.Author.Tests.{eqb-true}
 use Rattle.words.specs.Tests.{pick}
-use Rattle.digits.specs.Segments.{afterBlanks, digit?, digitsOf, withSign, headOf, onPart, mantissaOf, Skipped}
+use Rattle.digits.specs.Segments.{afterBlanks, digit?, digitsOf, withSign, signs, headOf, onPart, mantissaOf, Skipped}
 use Rattle.digits.specs.declared.Digits.the-variants.{Stray}
 use Rattle.digits.specs.declared.Part.{Part}
-use Rattle.digits.specs.declared.Part.the-variants.{Signed, Wrong}
+use Rattle.digits.specs.declared.Part.the-variants.{Wrong}
 use Rattle.digits.proofs.Laws.{one, none}
 
 -- digits behind a sign, one at least
@@ -98,19 +98,28 @@ module _ (f : List ℕ) (k : ℕ) (skips : Skipped f 0 (length f) k) (h : k < le
   behind : (s : Bool) → (k + 1 ≡ length f → ⊥) → some s (slice (k + 1) (length f) f) ≡ withSign s (digitsOf 0 (slice (k + 1) (length f) f))
   behind s n = rw (one f (k + 1) (length f) (omega arith) (omega arith))
 
-  pub minus-alone : getD f k 0 ≡ 45 → k + 1 ≡ length f → mantissaOf false 1 f ≡ Wrong
-  minus-alone e n = by-byte ∙ rw (eq-eqb (getD f k 0) 45 e, nothing n)
+  pub sign-alone : k + signs (getD f k 0) ≡ length f → mantissaOf false 1 f ≡ Wrong
+  sign-alone e = by-byte ∙ go (eqb (getD f k 0) 45) (eqb (getD f k 0) 43) e
+    where
+      go : (a b : Bool) → k + pick a 1 (pick b 1 0) ≡ length f
+          → pick a (some true (slice (k + 1) (length f) f))
+          (pick b (some false (slice (k + 1) (length f) f)) (withSign false (digitsOf 0 (getD f k 0 ∷ slice (k + 1) (length f) f))))
+          ≡ Wrong
+      go true b q = rw (nothing q)
+      go false true q = rw (nothing q)
+      go false false q = absurd (omega arith)
 
-  pub minus-some : getD f k 0 ≡ 45 → (k + 1 ≡ length f → ⊥) → mantissaOf false 1 f ≡ withSign true (digitsOf 0 (slice (k + 1) (length f) f))
-  minus-some e n = by-byte ∙ rw (eq-eqb (getD f k 0) 45 e) (behind true n)
-
-  pub plus-alone : getD f k 0 ≡ 43 → k + 1 ≡ length f → mantissaOf false 1 f ≡ Wrong
-  plus-alone e n = by-byte ∙ rw (ne-eqb (getD f k 0) 45 (omega arith), eq-eqb (getD f k 0) 43 e, nothing n)
-
-  pub plus-some : getD f k 0 ≡ 43 → (k + 1 ≡ length f → ⊥) → mantissaOf false 1 f ≡ withSign false (digitsOf 0 (slice (k + 1) (length f) f))
-  plus-some e n = by-byte ∙ rw (ne-eqb (getD f k 0) 45 (omega arith), eq-eqb (getD f k 0) 43 e) (behind false n)
-
-  pub unsigned : (getD f k 0 ≡ 45 → ⊥) → (getD f k 0 ≡ 43 → ⊥) → mantissaOf false 1 f ≡ withSign false (digitsOf 0 (slice k (length f) f))
-  unsigned m p =
-      by-byte ∙ rw (ne-eqb (getD f k 0) 45 m, ne-eqb (getD f k 0) 43 p)
-      (ap (λ (l : List ℕ). withSign false (digitsOf 0 l)) (sym (one f k (length f) h (omega arith))))
+  pub from-byte : (k + signs (getD f k 0) ≡ length f → ⊥)
+      → mantissaOf false 1 f ≡ withSign (eqb (getD f k 0) 45) (digitsOf 0 (slice (k + signs (getD f k 0)) (length f) f))
+  from-byte n = by-byte ∙ go (eqb (getD f k 0) 45) (eqb (getD f k 0) 43) n
+    where
+      go : (a b : Bool) → (k + pick a 1 (pick b 1 0) ≡ length f → ⊥)
+          → pick a (some true (slice (k + 1) (length f) f))
+          (pick b (some false (slice (k + 1) (length f) f)) (withSign false (digitsOf 0 (getD f k 0 ∷ slice (k + 1) (length f) f))))
+          ≡ withSign a (digitsOf 0 (slice (k + pick a 1 (pick b 1 0)) (length f) f))
+      go true b q = behind true q
+      go false true q = behind false q
+      go false false q =
+          let z : k ≡ k + 0 = omega arith in
+          ap (λ (l : List ℕ). withSign false (digitsOf 0 l)) (sym (one f k (length f) h (omega arith)))
+          ∙ ap (λ (x : ℕ). withSign false (digitsOf 0 (slice x (length f) f))) z

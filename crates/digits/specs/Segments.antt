@@ -4,7 +4,7 @@ use Prim.Native.Nat.{ℕ, _+_, _-_, _*_, _^_, _≤_, _<_}
 use mathlib.Core.Path.{_≡_}
 use mathlib.Core.List.{List, [], _∷_}
 use mathlib.Core.Bool.{Bool, true, false}
-use lib.Dec.{eqb}
+use lib.Dec.{eqb, leb}
 use lib.ListN.{length, getD, take, drop}
 use lib.Seq.{slice}
 use Rattle.words.specs.Tests.{pick, withinOf}
@@ -42,6 +42,20 @@ signOf (c ∷ cs) =
 -- blanks, a sign or none, and digits
 abbrev pub headOf : List ℕ → Part
 headOf hs = signOf (afterBlanks hs)
+
+-- how many bytes of a number's front are its sign, by its first byte
+abbrev pub signs : ℕ → ℕ
+signs c = pick (eqb c 45) 1 (pick (eqb c 43) 1 0)
+
+-- what is to follow digits that were read, or that they were not
+abbrev pub onDigits : Digits → (ℕ → Digits) → Digits
+onDigits (Count a) g = g a
+onDigits Stray g = Stray
+
+-- the digits from a place up to the point at h, the point, and the digits up to e; Stray where that place is behind the point's
+unfoldable pub pointedOf : List ℕ → ℕ → ℕ → ℕ → Digits
+pointedOf f from h e =
+    pick (leb from h) (onDigits (digitsOf 0 (slice from h f)) (λ a. pick (eqb (getD f h 0) 46) (digitsOf a (slice (h + 1) e f)) Stray)) Stray
 
 -- what is to follow a part that was read, or that it was not
 abbrev pub onPart : {A : Type 0} → Part → A → (Bool → ℕ → A) → A
@@ -90,11 +104,6 @@ pub record Skipped (f : List ℕ) (at end r : ℕ) : Type 0 where
   pub from : at ≤ r
   pub upto : r ≤ end
   pub rest : slice r end f ≡ afterBlanks (slice at end f)
-
--- r is what the digits from at to end say behind acc, and is small
-pub record Read (f : List ℕ) (at end acc : ℕ) (r : Digits) : Type 0 where
-  pub reads : r ≡ digitsOf acc (slice at end f)
-  pub small : Under (10 ^ end) r
 
 -- r is the part x, and is small
 pub record Is (n : ℕ) (x r : Part) : Type 0 where

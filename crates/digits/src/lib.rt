@@ -4,10 +4,11 @@
 // Nobody need believe the definitions that these functions meet (specs/Segments.antt): `decimal` shows
 // that together they find what its grammar says.
 ghost use mathlib.Core.Path.{_≡_};
-ghost use Prim.Native.Nat.{_+_, _≤_, _<_, _^_};
-ghost use mathlib.Core.Bool.{false};
-ghost use lib.ListN.{length, take};
-ghost use Rattle.digits.specs.Segments.{Skipped, Read, Is, withSign, headOf, mantissaOf, exponentOf};
+ghost use Prim.Native.Nat.{_+_, _-_, _≤_, _<_, _^_};
+ghost use mathlib.Core.Bool.{false, true};
+ghost use lib.ListN.{length, getD, take, drop};
+ghost use lib.Seq.{slice};
+ghost use Rattle.digits.specs.Segments.{Skipped, Is, digitsOf, signs, pointedOf, withSign, mantissaOf, exponentOf};
 
 // Digits alone, or a byte that is none.
 pub enum Digits {
@@ -36,11 +37,11 @@ pub fn skip(f: &[u8], at: usize, end: usize) -> usize
     i
 }
 
-// The digits from `at` to `end`, behind those that made `acc`.
+// The digits from `at` to `end`, behind those that made `acc`: eighteen in all at most.
 fn run(f: &[u8], at: usize, end: usize, acc: u64) -> Digits
     requires { ⌜ (at ≤ end) × (end ≤ length (now f)) ⌝ }
-    requires { ⌜ (end ≤ 18) × (acc < 10 ^ at) ⌝ }
-    ensures { λ r. ⌜ Read (now (f .entry)) at end acc r ⌝ }
+    requires { ⌜ (end ≤ at + 18) × (acc < 10 ^ (at + 18 - end)) ⌝ }
+    ensures { λ r. ⌜ r ≡ digitsOf acc (slice at end (now (f .entry))) ⌝ }
 {
     let mut n = acc;
     let mut i = at;
@@ -67,89 +68,82 @@ fn with_sign(minus: bool, d: Digits) -> Part
     }
 }
 
-// Blanks, a sign or none, and digits, up to `end`.
-fn head(f: &[u8], end: usize) -> Part
-    requires { ⌜ (end ≤ length (now f)) × (end ≤ 18) ⌝ }
-    ensures { λ r. ⌜ Is end (headOf (take end (now (f .entry)))) r ⌝ }
+// Where the digits begin that follow the byte at k, or begin with it: behind it where it is a sign.
+fn behind(f: &[u8], k: usize) -> usize
+    requires { ⌜ k < length (now f) ⌝ }
+    ensures { λ r. ⌜ r ≡ k + signs (getD (now (f .entry)) k 0) ⌝ }
 {
-    let k = skip(f, 0, end);
-    if k < end {
-        let c = f[k];
-        if c == b'-' {
-            return with_sign(true, run(f, k + 1, end, 0));
-        }
-        if c == b'+' {
-            return with_sign(false, run(f, k + 1, end, 0));
-        }
+    if f[k] == b'-' {
+        return k + 1;
     }
-    with_sign(false, run(f, k, end, 0))
+    if f[k] == b'+' {
+        return k + 1;
+    }
+    k
 }
 
-// A head, the point where there is one, and the places. I is F without a point and with one place:
-// its last byte is the digit that must be there.
-pub fn mantissa(f: &[u8], point: bool, places: usize) -> Part
-    requires { ⌜ (places + 1 ≤ length (now f)) × (length (now f) ≤ 18) ⌝ }
-    ensures { λ r. ⌜ Is 18 (mantissaOf point places (now (f .entry))) r ⌝ }
+// Digits up to the point, the point, and the digits up to `end`.
+fn pointed(f: &[u8], from: usize, point: usize, end: usize) -> Digits
+    requires { ⌜ (point < end) × (end ≤ length (now f)) × (end ≤ 18) ⌝ }
+    ensures { λ r. ⌜ r ≡ pointedOf (now (f .entry)) from point end ⌝ }
 {
-    let n = f.len();
-    let tail = n - places;
-    if point {
-        let h = tail - 1;
-        match head(f, h) {
-            Part::Signed(minus, a) => {
-                if f[h] != b'.' {
-                    return Part::Wrong;
-                }
-                with_sign(minus, run(f, tail, n, a))
+    if point < from {
+        return Digits::Stray;
+    }
+    match run(f, from, point, 0) {
+        Digits::Count(a) => {
+            if f[point] != b'.' {
+                return Digits::Stray;
             }
-            Part::Wrong => Part::Wrong,
+            run(f, point + 1, end, a)
         }
-    } else {
-        match head(f, tail) {
-            Part::Signed(minus, a) => with_sign(minus, run(f, tail, n, a)),
-            Part::Wrong => Part::Wrong,
-        }
+        Digits::Stray => Digits::Stray,
     }
 }
 
-// A whole number from its first byte that is no blank on: a sign or none, and digits, one at least. It
-// is what `mantissa` says of it, without looking at the blanks again (docs/SPEED.md).
+// The mantissa of the bytes up to `end`, from the field's first byte that is no blank on: a sign or none,
+// digits, the point and the places. Each byte is looked at once, by its place in the field (docs/SPEED.md).
+pub fn mantissa(f: &[u8], k: usize, places: usize, end: usize) -> Part
+    requires { ⌜ Skipped (now f) 0 (length (now f)) k ⌝ }
+    requires { ⌜ (k < length (now f)) × (places + 1 ≤ end) ⌝ }
+    requires { ⌜ (end ≤ length (now f)) × (end ≤ 18) ⌝ }
+    ensures { λ r. ⌜ Is 18 (mantissaOf true places (take end (now (f .entry)))) r ⌝ }
+{
+    let point = end - places - 1;
+    if point < k {
+        return Part::Wrong;
+    }
+    with_sign(f[k] == b'-', pointed(f, behind(f, k), point, end))
+}
+
+// A whole number from its first byte that is no blank on: a sign or none, and digits, one at least.
 pub fn whole(f: &[u8], k: usize) -> Part
     requires { ⌜ Skipped (now f) 0 (length (now f)) k ⌝ }
     requires { ⌜ (k < length (now f)) × (length (now f) ≤ 18) ⌝ }
     ensures { λ r. ⌜ Is 18 (mantissaOf false 1 (now (f .entry))) r ⌝ }
 {
     let n = f.len();
-    let c = f[k];
-    if c == b'-' {
-        if k + 1 == n {
-            return Part::Wrong;
-        }
-        return with_sign(true, run(f, k + 1, n, 0));
-    }
-    if c == b'+' {
-        if k + 1 == n {
-            return Part::Wrong;
-        }
-        return with_sign(false, run(f, k + 1, n, 0));
-    }
-    with_sign(false, run(f, k, n, 0))
-}
-
-// `E`, a sign and two digits.
-pub fn exponent(f: &[u8]) -> Part
-    requires { ⌜ length (now f) ≡ 4 ⌝ }
-    ensures { λ r. ⌜ Is 18 (exponentOf (now (f .entry))) r ⌝ }
-{
-    if f[0] != b'E' {
+    let from = behind(f, k);
+    if from == n {
         return Part::Wrong;
     }
-    let c = f[1];
+    with_sign(f[k] == b'-', run(f, from, n, 0))
+}
+
+// `E`, a sign and two digits: the field's last four bytes.
+pub fn exponent(f: &[u8], at: usize) -> Part
+    requires { ⌜ at + 4 ≡ length (now f) ⌝ }
+    ensures { λ r. ⌜ Is 18 (exponentOf (drop at (now (f .entry)))) r ⌝ }
+{
+    if f[at] != b'E' {
+        return Part::Wrong;
+    }
+    let c = f[at + 1];
     if c == b'-' {
-        return with_sign(true, run(f, 2, 4, 0));
+        return with_sign(true, run(f, at + 2, at + 4, 0));
     }
     if c == b'+' {
-        return with_sign(false, run(f, 2, 4, 0));
+        return with_sign(false, run(f, at + 2, at + 4, 0));
     }
     Part::Wrong
 }

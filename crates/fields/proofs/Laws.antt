@@ -1,23 +1,21 @@
 -- A field is short or whole, a listed number is in the table or not: what the definitions say in each case, by computing their one test.
 use Prim.Native.Nat.{ℕ, _+_, _-_, _≤_, _<_}
-use mathlib.Core.Path.{_≡_, refl, sym, ap, _∙_}
+use mathlib.Core.Path.{_≡_, refl, sym, ap}
 use mathlib.Core.List.{List}
 use native.Mathlib.Omega.{arith}
-use lib.Dec.{eqb}
+use lib.Dec.{ltb}
 use lib.ListN.{length, take, drop, length-drop}
 use lib.Seq.{length-take-le}
 use mathlib.Core.Bool.{Bool, true, false}
-use borrow.Author.Tests.{lt-ltb, le-ltb}
+use borrow.Author.Tests.{lt-ltb, le-ltb, ltb-true, ltb-false}
 use Rattle.words.specs.Tests.{pick, withinOf}
 use Rattle.words.specs.Words.{placeOf}
 use Rattle.decimal.specs.Forms.{widthOf, shapeOf}
-use Rattle.decimal.specs.Scan.{written, decimalOf, Fit}
+use Rattle.decimal.specs.Scan.{written, decimalOf}
 use Rattle.decimal.specs.declared.Form.{Form}
-use Rattle.decimal.specs.declared.Form.the-variants.{I4, I6, I8, I16}
 use Rattle.decimal.specs.declared.Shape.{Shape}
-use Rattle.decimal.specs.declared.Shape.the-variants.{Whole}
 use Rattle.decimal.proofs.Laws.{wide}
-use Rattle.fields.specs.Whole.{wholeForm}
+use Rattle.fields.specs.Shaped.{shapedAt}
 use Rattle.fields.specs.Field.{refuse, fromWritten, fieldBytes, fieldAt}
 use Rattle.fields.specs.Listed.{listed, listedField}
 
@@ -42,32 +40,33 @@ module _ (b : List ℕ) (n : ℕ) where
   unfolding listedField
   inside e = rw e
 
--- a part from a place to that place and n more has n bytes
-pub extent : (at : ℕ) {n m : ℕ} → n ≡ m → at + n - at ≡ m
-extent at e = omega arith
+-- the bytes end before the field does, tested without a sum that might wrap
+pub same-test : (l at n : ℕ) → n ≤ l → ltb (l - n) at ≡ ltb l (at + n)
+same-test l at n h = go (ltb (l - n) at) refl
+  where
+    go : (t : Bool) → ltb (l - n) at ≡ t → t ≡ ltb l (at + n)
+    go true e = let q = ltb-true (l - n) at e in sym (lt-ltb l (at + n) (omega (arith, q)))
+    go false e = let q = ltb-false (l - n) at e in sym (le-ltb l (at + n) (omega (arith, q)))
 
--- a form of whole numbers by its width: its shape, and that its number fits
-module _ (n : ℕ) where
-  by-width : (P : Form → Type 0) → P I4 → P I6 → P I8 → P I16 → P (wholeForm n)
-  by-width P a b c d = go (eqb n 4) (eqb n 6) (eqb n 8)
-    where
-      go : (x y z : Bool) → P (pick x I4 (pick y I6 (pick z I8 I16)))
-      go true y z = a
-      go false true z = b
-      go false false true = c
-      go false false false = d
+-- a field of some width and shape: short or not
+module _ (b : List ℕ) (at n : ℕ) (s : Shape) where
+  pub shaped-short : ltb (length b) (at + n) ≡ true → shapedAt b at n s ≡ refuse 2 0
+  unfolding shapedAt
+  shaped-short e = rw e
 
-  whole-shape : shapeOf (wholeForm n) ≡ Whole
-  whole-shape = by-width (λ (k : Form). shapeOf k ≡ Whole) refl refl refl refl
+  pub shaped-there : ltb (length b) (at + n) ≡ false → shapedAt b at n s ≡ fromWritten at (decimalOf s (take (at + n - at) (drop at b)))
+  unfolding shapedAt
+  shaped-there e = let q : at + n - at ≡ n = omega arith in rw (e, q)
 
-  pub whole-fits : widthOf (wholeForm n) ≡ n → Fit Whole n
-  whole-fits e =
-      let h = by-width (λ (k : Form). (2 ≤ widthOf k) × (widthOf k ≤ 18)) (omega arith) (omega arith) (omega arith) (omega arith) in
-      omega arith
-
-  pub whole-written : (f : List ℕ) → length f ≡ n → widthOf (wholeForm n) ≡ n → written (wholeForm n) f ≡ decimalOf Whole f
-  whole-written f l e = wide (wholeForm n) f (l ∙ sym e) ∙ ap (λ (k : Shape). decimalOf k f) whole-shape
-
-pub part-long : (b : List ℕ) (at n : ℕ) → at + n ≤ length b → length (take (at + n - at) (drop at b)) ≡ n
-part-long b at n h =
-    length-take-le (at + n - at) (drop at b) (simp length-drop (omega arith)) ∙ (let e : at + n - at ≡ n = omega arith in e)
+-- a form's field is one of its width and shape
+pub shaped : (b : List ℕ) (at : ℕ) (k : Form) → shapedAt b at (widthOf k) (shapeOf k) ≡ fieldAt b at k
+unfolding shapedAt fieldAt
+shaped b at k = go (ltb (length b) (at + widthOf k)) refl
+  where
+    go : (t : Bool) → ltb (length b) (at + widthOf k) ≡ t
+        → pick t (refuse 2 0) (fromWritten at (decimalOf (shapeOf k) (take (widthOf k) (drop at b))))
+        ≡ pick t (refuse 2 0) (fromWritten at (written k (fieldBytes b at k)))
+    go true e = refl
+    go false e =
+        let l : at + widthOf k ≤ length b = ltb-false (length b) (at + widthOf k) e in
+        ap (fromWritten at) (sym (wide k (take (widthOf k) (drop at b)) (length-take-le (widthOf k) (drop at b) (simp length-drop (omega (arith, l))))))

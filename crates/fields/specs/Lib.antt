@@ -1,4 +1,4 @@
 -- The specs of `fields`: what stands at a place, the table of listed fields, and the words of the answer.
 pub mod Field
-pub mod Whole
+pub mod Shaped
 pub mod Listed

@@ -5,9 +5,12 @@ use decimal::Form;
 use decimal::Written;
 use words::Refusal;
 ghost use mathlib.Core.Path.{_≡_};
-ghost use Prim.Native.Nat.{_<_};
-ghost use Rattle.decimal.specs.Forms.{widthOf};
-ghost use Rattle.fields.specs.Whole.{wholeForm};
+ghost use Prim.Native.Nat.{_<_, _+_};
+ghost use lib.Dec.{ltb};
+ghost use lib.ListN.{length};
+ghost use Rattle.decimal.specs.Scan.{Fit};
+ghost use Rattle.decimal.specs.declared.Shape.the-variants.{Whole, Fixed, Expo};
+ghost use Rattle.fields.specs.Shaped.{shapedAt};
 ghost use Rattle.fields.specs.Field.{fieldAt, fromWritten, refuse};
 ghost use Rattle.fields.specs.Listed.{row, listed, listedField};
 
@@ -43,40 +46,56 @@ fn from_written(w: Written, at: usize) -> Field
     }
 }
 
-// A whole number of n columns at a place, which is the width of its form. Bytes that end before the
-// field does are refusal 2.
-fn whole_at(bytes: &[u8], at: usize, n: usize) -> Field
-    requires { ⌜ widthOf (wholeForm n) ≡ n ⌝ }
-    ensures { λ r. ⌜ r ≡ fieldAt (now (bytes .entry)) at (wholeForm n) ⌝ }
+// The bytes end before a field of n bytes at a place does.
+fn short(bytes: &[u8], at: usize, n: usize) -> bool
+    ensures { λ r. ⌜ r ≡ ltb (length (now (bytes .entry))) (at + n) ⌝ }
 {
     let len = bytes.len();
     if len < n {
-        return refused(2, 0);
+        return true;
     }
-    if len - n < at {
+    len - n < at
+}
+
+// A whole number of n bytes at a place. Here and in the two below bytes that end before the field does are
+// refusal 2.
+fn whole_at(bytes: &[u8], at: usize, n: usize) -> Field
+    requires { ⌜ Fit Whole n ⌝ }
+    ensures { λ r. ⌜ r ≡ shapedAt (now (bytes .entry)) at n Whole ⌝ }
+{
+    if short(bytes, at, n) {
         return refused(2, 0);
     }
     let end = at + n;
     from_written(decimal::whole(&bytes[at..end]), at)
 }
 
-// A field of any form at a place, read by its form. Bytes that end before the field does are refusal 2.
-fn any_at(bytes: &[u8], at: usize, form: Form) -> Field
-    ensures { λ r. ⌜ r ≡ fieldAt (now (bytes .entry)) at form ⌝ }
+// A number of n bytes with so many places at a place.
+fn fixed_at(bytes: &[u8], at: usize, n: usize, places: usize) -> Field
+    requires { ⌜ Fit (Fixed places) n ⌝ }
+    ensures { λ r. ⌜ r ≡ shapedAt (now (bytes .entry)) at n (Fixed places) ⌝ }
 {
-    let n = decimal::width(form);
-    if bytes.len() < n {
-        return refused(2, 0);
-    }
-    if bytes.len() - n < at {
+    if short(bytes, at, n) {
         return refused(2, 0);
     }
     let end = at + n;
-    from_written(decimal::read(&bytes[at..end], form), at)
+    from_written(decimal::fixed(&bytes[at..end], places), at)
 }
 
-// What the field of this form at a place says. Where the form is one of whole numbers, the compiler
-// knows its width here, and need not look it up (docs/SPEED.md).
+// A number of n bytes with so many places and an exponent at a place.
+fn expo_at(bytes: &[u8], at: usize, n: usize, places: usize) -> Field
+    requires { ⌜ Fit (Expo places) n ⌝ }
+    ensures { λ r. ⌜ r ≡ shapedAt (now (bytes .entry)) at n (Expo places) ⌝ }
+{
+    if short(bytes, at, n) {
+        return refused(2, 0);
+    }
+    let end = at + n;
+    from_written(decimal::expo(&bytes[at..end], places), at)
+}
+
+// What the field of this form at a place says. Each form's width and places stand here as numbers, so that
+// the compiler makes a reader of each and no table is looked into (docs/SPEED.md).
 pub fn field_at(bytes: &[u8], at: usize, form: Form) -> Field
     ensures { λ r. ⌜ r ≡ fieldAt (now (bytes .entry)) at form ⌝ }
 {
@@ -85,7 +104,9 @@ pub fn field_at(bytes: &[u8], at: usize, form: Form) -> Field
         Form::I6 => whole_at(bytes, at, 6),
         Form::I8 => whole_at(bytes, at, 8),
         Form::I16 => whole_at(bytes, at, 16),
-        _ => any_at(bytes, at, form),
+        Form::F8d3 => fixed_at(bytes, at, 8, 3),
+        Form::F16d7 => fixed_at(bytes, at, 16, 7),
+        Form::E20d13 => expo_at(bytes, at, 20, 13),
     }
 }
 

@@ -1,110 +1,66 @@
--- The head, the point and the places are read one after the other: each return is the definition's branch at what was read.
-use mathlib.Core.Path.{refl, sym, _∙_}
-use mathlib.Core.Bool.{true, false}
+-- From the first byte that is no blank on: behind the point's place it is wrong, else a sign joins the digits on both sides of the point.
+use Prim.Native.Nat.{_+_, _-_}
+use mathlib.Core.Path.{sym, ap, _∙_}
 use native.Mathlib.Omega.{arith}
-use borrow.Author.Needs.{needs}
-use borrow.Author.Tests.{eq-eqb, ne-eqb}
+use lib.Dec.{eqb}
+use lib.ListN.{getD}
+use Rattle.digits.specs.Segments.{withSign, signs, pointedOf}
 use Rattle.digits.proofs.Laws as laws
+use Rattle.digits.proofs.PointLaws as point
+use borrow.Author.Needs.{needs}
 use Rattle.digits.proofs.mantissa.Statement.{statement}
 use Rattle.digits.proofs.mantissa.Tie as tie
 
-sub-tail : tie.Need-sub-tail
-sub-tail c = search needs
+sub-point : tie.Need-sub-point
+sub-point c = search needs
 
-sub-h : tie.Need-sub-h
-sub-h c = search needs
-
-head-requires : tie.Need-head-requires
-head-requires c κs = search needs
-
-enum-known-minus : tie.Need-enum-known-minus
-enum-known-minus c = search needs
-
-shared-slice-read-if2 : tie.Need-shared-slice-read-if2
-shared-slice-read-if2 c = search needs
+sub-point-2 : tie.Need-sub-point-2
+sub-point-2 c = search needs
 
 returns : tie.Need-returns
-returns c = record {
-  is = rw (c .before .before .before .before .before .before .if1 .taken)
-      (sym (laws.mant-point true _ _ _ _ (sym (c .before .before .before .before .before .head .ensures .is)
-      ∙ c .before .before .before .minus .given .1) (ne-eqb _ _ (c .if2 .taken))));
-  small = tt;
-}
+returns c =
+    let args = c .before .before .args in
+    let pre = c .before .before .pre in
+    record {
+      is = sym (point.blank-point (args .f .now) (args .k) (args .places) (args .end) (pre .0) (pre .1 .0 .1) (pre .1 .1 .0)
+          (c .if1 .taken));
+      small = tt;
+    }
 
-run-requires : tie.Need-run-requires
-run-requires c κs =
-    let h = rw (c .before .before .before .minus .given .1) at (c .before .before .before .before .before .head .ensures .small) in
-    ((omega arith, omega arith), (omega arith, laws.room _ (omega arith) h))
+shared-slice-read-with-sign : tie.Need-shared-slice-read-with-sign
+shared-slice-read-with-sign c = search needs
+
+behind-requires : tie.Need-behind-requires
+behind-requires c κs = search needs
+
+pointed-requires : tie.Need-pointed-requires
+pointed-requires c κs = search needs
 
 with-sign-requires : tie.Need-with-sign-requires
 with-sign-requires c κs = search needs
 
-enum-told : tie.Need-enum-told
-enum-told c = search needs
-
-head-requires-2 : tie.Need-head-requires-2
-head-requires-2 c κs = search needs
-
-enum-known-minus-2 : tie.Need-enum-known-minus-2
-enum-known-minus-2 c = search needs
-
-run-requires-2 : tie.Need-run-requires-2
-run-requires-2 c κs =
-    let h = rw (c .before .minus2 .given .1) at (c .before .before .before .head2 .ensures .small) in
-    ((omega arith, omega arith), (omega arith, laws.room _ (omega arith) h))
-
-with-sign-requires-2 : tie.Need-with-sign-requires-2
-with-sign-requires-2 c κs = search needs
-
-enum-told-2 : tie.Need-enum-told-2
-enum-told-2 c = search needs
-
 returns-2 : tie.Need-returns-2
 returns-2 c =
-    laws.made 18 _ (c .with-sign .ensures) (c .before .run .ensures) (c .before .before .before .before .before .before .before .before .before .before .pre .1)
-    (rw (c .before .before .before .before .before .before .before .before .if1 .taken)
-    (laws.mant true _ _ _ _ (sym (c .before .before .before .before .before .before .before .head .ensures .is)
-    ∙ c .before .before .before .before .before .minus .given .1) (eq-eqb _ _ (c .before .before .if2 .left))))
-
-returns-3 : tie.Need-returns-3
-returns-3 c = record {
-  is = rw (c .before .before .before .if1 .taken)
-      (sym (laws.mant-wrong true _ _ (sym (c .before .before .head .ensures .is) ∙ c .enum-told .given .1)));
-  small = tt;
-}
-
-returns-4 : tie.Need-returns-4
-returns-4 c =
-    laws.made 18 _ (c .with-sign2 .ensures) (c .before .run2 .ensures) (c .before .before .before .before .before .before .before .before .pre .1)
-    (rw (c .before .before .before .before .before .before .if1 .left)
-    (laws.mant false _ _ _ _ (sym (c .before .before .before .before .before .head2 .ensures .is) ∙ c .before .before .before .minus2 .given .1) refl))
-
-returns-5 : tie.Need-returns-5
-returns-5 c = record {
-  is = rw (c .before .before .before .if1 .left)
-      (sym (laws.mant-wrong false _ _ (sym (c .before .before .head2 .ensures .is) ∙ c .enum-told2 .given .1)));
-  small = tt;
-}
+    let args = c .before .before .before .before .before .before .args in
+    let pre = c .before .before .before .before .before .before .pre in
+    let f = args .f .now in
+    let x = getD f (args .k) 0 in
+    let h = args .end - args .places - 1 in
+    laws.made (eqb x 45) (pointedOf f (args .k + signs x) h (args .end))
+    (c .with-sign .ensures ∙ ap (withSign (eqb x 45))
+    (c .before .pointed .ensures ∙ ap (λ y. pointedOf f y h (args .end)) (c .before .before .behind .ensures)))
+    (point.fits f (args .k + signs x) h (args .end) (omega arith) (pre .1 .1 .0) (pre .1 .1 .1))
+    (point.from-byte f (args .k) (args .places) (args .end) (pre .0) (pre .1 .0 .1) (pre .1 .1 .0) (c .before .before .before .before .if1 .left))
 
 pub mantissa-spec : {M : Type 1} → statement M
 mantissa-spec =
     tie.close
     (tie.spec
-    sub-tail
-    sub-h
-    head-requires
-    enum-known-minus
-    shared-slice-read-if2
+    sub-point
+    sub-point-2
     returns
-    run-requires
+    shared-slice-read-with-sign
+    behind-requires
+    pointed-requires
     with-sign-requires
-    enum-told
-    head-requires-2
-    enum-known-minus-2
-    run-requires-2
-    with-sign-requires-2
-    enum-told-2
-    returns-2
-    returns-3
-    returns-4
-    returns-5)
+    returns-2)
