@@ -49,6 +49,12 @@ def worked_examples() -> None:
     decimal('F16.7', '     1.000000000', 'BAD')
     decimal('I6', '     0', value(0))
     decimal('E20.13', ' 1.0000000000000E+02', value(10000000000000, 2))
+    title('a sign in the first column, a sign with blanks only, two signs')
+    decimal('F16.7', '  -    1.0000000', value(-10000000))
+    decimal('F16.7', '-       .5000000', value(-5000000))
+    decimal('F16.7', '-' + ' ' * 15, 'BAD')
+    decimal('F16.7', '-     -1.0000000', 'BAD')
+    decimal('I16', '-              1', 'BAD')
     title('the slip of the lost minus')
     decimal('F16.7', '      -0.5000000', value(-5000000))
     decimal('F8.3', '  -0.500', value(-500))
@@ -85,21 +91,25 @@ def point_shapes() -> None:
                         (f'0.{ones}', int(ones)), (f'-0.{ones}', -int(ones)), (f'-1.{zeros}', -10 ** d), (f'+01.{zeros}', 10 ** d)]:
             decimal(form, text.rjust(w), value(m))
         decimal(form, ' ' * w, 'BLANK')
-        title(f'{form}: extremes')
         n = w - d - 1
+        title(f'{form}: blanks behind the sign (document 02, No. 4)')
+        for text, m in [(f'- 1.{zeros}', -10 ** d), (f'+ 1.{zeros}', 10 ** d), (f'-  .{ones}', -int(ones)), (f'+  .{zeros}', 0),
+                        ('-' + f'1.{zeros}'.rjust(w - 1), -10 ** d), ('+' + f'.{ones}'.rjust(w - 1), int(ones))]:
+            decimal(form, text.rjust(w), value(m))
+        title(f'{form}: extremes')
         decimal(form, '9' * n + '.' + '9' * d, value(10 ** (n + d) - 1))
         decimal(form, '-' + '9' * (n - 1) + '.' + '9' * d, value(-(10 ** (n - 1 + d) - 1)))
         decimal(form, '+' + '9' * (n - 1) + '.' + '9' * d, value(10 ** (n - 1 + d) - 1))
         decimal(form, '0' * n + '.' + '0' * (d - 1) + '1', value(1))
         decimal(form, '-' + '0' * (n - 1) + '.' + '0' * (d - 1) + '1', value(-1))
         title(f'{form}: badly written')
-        for text in [f'- 1.{zeros}', f'+ 1.{zeros}', f'--1.{zeros}', f'+-1.{zeros}', f'1 .{zeros}', f'1. {zeros[1:]}',
+        for text in [f'- -.{zeros}', f'+ -.{zeros}', f'--1.{zeros}', f'+-1.{zeros}', f'- 1 .{zeros}'[-w:], f'1 .{zeros}', f'1. {zeros[1:]}',
                      f'1.{zeros[1:]} ', f'1.{zeros[1:]}', f'1.{zeros}0', f'1{zeros}', f'1.{zeros[1:]}.', f'1..{zeros[1:]}',
                      f'1,{zeros}', f'1.{zeros[1:]}-', f'1-.{zeros}', f'1.-{zeros[1:]}', '.', '-.', f'-{zeros}', f'1e{zeros}',
                      f'\t1.{zeros}', f'1.{zeros[1:]}\t', f'\x001.{zeros}', f'\xa01.{zeros}', f'1.{zeros[1:]}\xa0',
                      f'\x801.{zeros}', f'\xff1.{zeros}', f'1\xb7{zeros}', f'1.{zeros[1:]}:', f'1.{zeros[1:]}/', f'A.{zeros}']:
             decimal(form, text.rjust(w), 'BAD')
-        for text in [f'1.{zeros}'.ljust(w), f'.{zeros}'.ljust(w), ' ' * (w - 1) + '.', '-'.ljust(w), '\x00' * w, '\xa0' * w]:
+        for text in [f'1.{zeros}'.ljust(w), f'.{zeros}'.ljust(w), ' ' * (w - 1) + '.', '-'.ljust(w), ' +'.ljust(w), ' ' * (w - 2) + '- ', '\x00' * w, '\xa0' * w]:
             decimal(form, text, 'BAD')
 
 
@@ -108,7 +118,8 @@ def exponent_shapes() -> None:
     z, nines = '0' * d, '9' * d
     title('E20.13: well written')
     for text, m, e in [(f'1.{z}E+02', 10 ** d, 2), (f'1.{z}E-02', 10 ** d, -2), (f'-1.{z}E+00', -10 ** d, 0),
-                       (f'+1.{z}E-00', 10 ** d, 0), (f'.{z}E+99', 0, 99), (f'-.{z}E-99', 0, -99), (f'-0.{nines}E-12', -int(nines), -12)]:
+                       (f'+1.{z}E-00', 10 ** d, 0), (f'.{z}E+99', 0, 99), (f'-.{z}E-99', 0, -99), (f'-0.{nines}E-12', -int(nines), -12),
+                       (f'- .{z[1:]}1E-02', -1, -2), (f'+ .{nines}E+02', int(nines), 2)]:
         decimal(form, text.rjust(w), value(m, e))
     decimal(form, ' ' * w, 'BLANK')
     title('E20.13: extremes')
@@ -119,7 +130,7 @@ def exponent_shapes() -> None:
     title('E20.13: badly written')
     for text in [f'1.{z}e+02', f'1.{z}D+02', f'1.{z} +02', f'1.{z}E02', f'1.{z}E 02', f'1.{z}E+2', f'1.{z}E+2 ', f'1.{z}E+ 2',
                  f'1.{z}E++2', f'1.{z}E+0A', f'1.{z}E+\t2', f'1.{z}E+002', f'1.{z[1:]}E+02', f'1.{z}0E+02', f'1{z}0E+02',
-                 f'1.{z}', f'1.{z}E+', f'- 1.{z}E+02', f'--1.{z}E+02', f'1 .{z}E+02', f'1.{z[1:]} E+02', f'\x001.{z}E+02',
+                 f'1.{z}', f'1.{z}E+', f'- -.{z[1:]}E+02', f'--.{z}E+02', f'- .{z}E- 2', f'1 .{z}E+02', f'1.{z[1:]} E+02', f'\x001.{z}E+02',
                  f'\xa01.{z}E+02', f'1.{z}\xc5+02', f'1.{z}E\xab02', f'1.{z}E+0\xb2', 'E+02', '.E+02', f'1.{z}+E02']:
         decimal(form, text.rjust(w), 'BAD')
     for text in [f'1.{z}E+02'.ljust(w), '\x00' * w, '\xa0' * w, '\t' * w]:

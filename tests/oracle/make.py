@@ -88,7 +88,10 @@ def spell_point(rng: random.Random, form: str) -> tuple[bytes, Answer]:
     most = width - tail - len(sign)
     before = _random_digits(rng, rng.choice((most, rng.randint(0 if places else 1, most))))
     after = _random_digits(rng, places)
-    text = sign + before + ("." + after if places else "") + ("E" + exponent if exponent else "")
+    text = before + ("." + after if places else "") + ("E" + exponent if exponent else "")
+    room = width - len(sign) - len(text)
+    gap = rng.choice((0, room, rng.randint(0, room))) if sign and places else 0  # F and E only (document 02, No. 4)
+    text = sign + " " * gap + text
     units = int(before + after) * (-1 if sign == "-" else 1)
     return text.rjust(width).encode("ascii"), ("value", units, int(exponent or "0"))
 
@@ -115,7 +118,8 @@ def _bad_points(form: str) -> Iterator[bytes]:
         b"." + b"5" * (places + 1),
         b"." + b"5" * (places - 1),
         b"1" + b"." + b"5" * (places - 1) + b".",  # two points
-        b"- ." + b"5" * places,  # the sign touches what follows
+        b"- -." + b"5" * places,  # two signs, with a blank between
+        b"- 1 ." + b"5" * places,  # blanks stand behind the sign, not behind a digit
         b"--." + b"5" * places,
         b"1 ." + b"5" * places,
         b"1," + b"5" * places,
@@ -137,6 +141,7 @@ def bad_texts(form: str) -> list[bytes]:
     width = WIDTH[form]
     texts = _BAD_WHOLE if form[0] == "I" else tuple(_bad_points(form))
     padded = [text.rjust(width) for text in texts if len(text) <= width]
+    padded += [sign.ljust(width) for sign in (b"-", b"+", b" -")]  # a sign with blanks only
     padded += [b"1" * (width - 1) + b" ", b"\x00" * width, b"\xff" * width, b" " * (width - 1) + b"\t"]
     return padded
 

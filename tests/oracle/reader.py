@@ -26,8 +26,10 @@ Codes = tuple[Optional[int], ...]  # four code bytes; None is "any"
 BLANK: Answer = ("blank",)
 BAD: Answer = ("bad",)
 
-# "blanks, optional sign": the sign touches what follows.
+# "blanks, optional sign": in an I field the sign touches what follows.
 _LEAD = rb" *(?P<sign>[+-]?)"
+# "for F and E a sign may be followed by blanks" (document 02, No. 4).
+_POINT_LEAD = _LEAD + rb" *"
 
 
 def _whole_pattern() -> re.Pattern[bytes]:
@@ -36,14 +38,14 @@ def _whole_pattern() -> re.Pattern[bytes]:
 
 
 def _point_pattern(places: int) -> re.Pattern[bytes]:
-    """Fw.d: blanks, optional sign, any number of digits, a point, exactly d digits, end."""
-    return re.compile(_LEAD + rb"(?P<digits>[0-9]*)\.(?P<fraction>[0-9]{%d})(?P<exponent>)" % places)
+    """Fw.d: blanks, optional sign, blanks, any number of digits, a point, exactly d digits, end."""
+    return re.compile(_POINT_LEAD + rb"(?P<digits>[0-9]*)\.(?P<fraction>[0-9]{%d})(?P<exponent>)" % places)
 
 
 def _exponent_pattern(places: int) -> re.Pattern[bytes]:
     """E20.13: as F with 13 places, then `E`, a sign, two digits."""
     return re.compile(
-        _LEAD + rb"(?P<digits>[0-9]*)\.(?P<fraction>[0-9]{%d})E(?P<exponent>[+-][0-9]{2})" % places
+        _POINT_LEAD + rb"(?P<digits>[0-9]*)\.(?P<fraction>[0-9]{%d})E(?P<exponent>[+-][0-9]{2})" % places
     )
 
 
@@ -618,7 +620,7 @@ def written_whole(text: bytes) -> Optional[int]:
 
 
 def _written_point(text: bytes, places: int) -> bool:
-    before, point, after = _unsigned(text.lstrip(b" ")).partition(b".")
+    before, point, after = _unsigned(text.lstrip(b" ")).lstrip(b" ").partition(b".")
     return point == b"." and _digits(before) and _digits(after) and len(after) == places
 
 

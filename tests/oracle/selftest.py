@@ -184,7 +184,7 @@ def second_reading(form: str, text: bytes) -> Answer:
     if not reader.well_written(form, text):
         return ("bad",)
     mantissa, exponent = (text[:-4], int(text[-3:])) if form[0] == "E" else (text, 0)
-    number = reader.written_whole(mantissa.replace(b".", b""))
+    number = reader.written_whole(mantissa.replace(b".", b"") if form[0] == "I" else mantissa.replace(b".", b"").replace(b" ", b""))
     assert number is not None
     return ("value", number, exponent)
 
@@ -212,12 +212,13 @@ def decimals(tally: Tally, rng: random.Random) -> None:
         ("I4", "9999", 9999), ("I4", "-999", -999), ("I4", "+001", 1), ("I4", "bb-0", 0), ("I8", "99999999", 99999999),
         ("I16", "9999999999999999", 9999999999999999), ("I16", "-999999999999999", -999999999999999),
         ("F8.3", "9999.999", 9999999), ("F8.3", "-999.999", -999999), ("F8.3", "bbbb.000", 0), ("F8.3", "bbb-.001", -1),
-        ("F16.7", "bbbbbbbb.5000000", 5000000),
+        ("F16.7", "bbbbbbbb.5000000", 5000000), ("F16.7", "bb-bbbb1.0000000", -10000000), ("F16.7", "-bbbbbbb.5000000", -5000000),
+        ("F16.7", "+bbbbbb0.0000001", 1), ("F8.3", "-bbb.001", -1), ("F8.3", "b+b9.999", 9999),
     ):
         tally.equal(decimal(form, b(text)), ("value", want, 0), form, text)
     for text, number, exponent in (
         ("-9.9999999999999E-99", -99999999999999, -99), ("99.9999999999999E+99", 999999999999999, 99),
-        ("b-.0000000000000E-07", 0, -7), ("bb.0000000000001E-00", 1, 0), ("+1.5000000000000E+10", 15000000000000, 10),
+        ("b-.0000000000000E-07", 0, -7), ("-b.0000000000001E-07", -1, -7), ("bb.0000000000001E-00", 1, 0), ("+1.5000000000000E+10", 15000000000000, 10),
     ):
         tally.equal(decimal("E20.13", b(text)), ("value", number, exponent), text)
 

@@ -34,7 +34,7 @@ pub fits-length : (k : Form) (bs : List ℕ) → length bs ≡ widthOf k → Fit
 fits-length k bs e = subst (Fit (shapeOf k)) (sym e) (fits k)
 
 -- nothing well written is bad
-pub never : {k : Shape} {bs : List ℕ} {r : Written} → Good k bs r → r ≡ Bad → ⊥
+pub never : {k : Shape} {bs : List ℕ} {r : Written} → Good true k bs r → r ≡ Bad → ⊥
 never (blank k n) e = let z : _≡_ {A = ℕ} 0 1 = cc in omega arith
 never (whole w) e = let z : _≡_ {A = ℕ} 0 1 = cc in omega arith
 never (fixed w) e = let z : _≡_ {A = ℕ} 0 1 = cc in omega arith

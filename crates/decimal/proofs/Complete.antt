@@ -10,9 +10,9 @@ use lib.Dec.{eqb}
 use lib.IntN.{ℤ}
 use borrow.Author.Tests.{ne-eqb, le-leb}
 use Rattle.words.specs.Tests.{pick}
-use Rattle.digits.specs.Segments.{afterBlanks, digitsOf, withSign, signOf, headOf, onPart, mantissaOf, exponentOf, signedDigits}
+use Rattle.digits.specs.Segments.{afterBlanks, afterGap, digitsOf, withSign, signOf, headOf, onPart, mantissaOf, exponentOf, signedDigits}
 use Rattle.decimal.specs.Scan.{numberIn, decimalOf, orBlank, scaledOf}
-use Rattle.decimal.specs.Grammar.{Numeral, after, Sign, plus, minus, mark, negative, Lead, bare, with, signedOf, Good, blank, whole, fixed, expo}
+use Rattle.decimal.specs.Grammar.{Numeral, after, Sign, plus, minus, mark, negative, Gap, Lead, bare, with, signedOf, Good, blank, whole, fixed, expo}
 use Rattle.decimal.proofs.Spelt.{dot, Spelt, spelt, of-whole, of-point}
 use Rattle.decimal.specs.declared.Shape.{Shape}
 use Rattle.decimal.specs.declared.Written.{Written}
@@ -32,20 +32,31 @@ pub blanks : (b : ℕ) (xs : List ℕ) → afterBlanks (replicate b 32 ++ xs) �
 blanks zero xs = refl
 blanks (suc b) xs = blanks b xs
 
-sign-bare : (cs : List ℕ) → Numeral cs → signOf (afterBlanks cs) ≡ Signed false (after 0 cs)
-sign-bare [] n = refl
-sign-bare (c ∷ cs) n =
+-- digits have no blank at their front
+unblank : (cs : List ℕ) → Numeral cs → afterBlanks cs ≡ cs
+unblank [] n = refl
+unblank (c ∷ cs) n = let l = n .0 in rw (ne-eqb c 32 (omega arith))
+
+-- blanks behind a sign, where there may be any
+gap : (p : Bool) (m : ℕ) (cs : List ℕ) → Gap p m → Numeral cs → afterGap p (replicate m 32 ++ cs) ≡ cs
+gap true m cs h n = blanks m cs ∙ unblank cs n
+gap false m cs h n = ap (λ (i : ℕ). replicate i 32 ++ cs) h
+
+sign-bare : (p : Bool) (cs : List ℕ) → Numeral cs → signOf p (afterBlanks cs) ≡ Signed false (after 0 cs)
+sign-bare p [] n = refl
+sign-bare p (c ∷ cs) n =
     let l = n .0 in
     rw (ne-eqb c 32 (omega arith), ne-eqb c 45 (omega arith), ne-eqb c 43 (omega arith), numeral 0 (c ∷ cs) n)
 
-pub head : (b : ℕ) {g : List ℕ} {s : Bool} (cs : List ℕ) → Lead g s → Numeral cs → signOf (afterBlanks (replicate b 32 ++ (g ++ cs))) ≡ Signed s (after 0 cs)
-head b cs bare n = rw (blanks b cs) (sign-bare cs n)
-head b cs (with plus) n = rw (blanks b (43 ∷ cs), numeral 0 cs n)
-head b cs (with minus) n = rw (blanks b (45 ∷ cs), numeral 0 cs n)
+pub head : (p : Bool) (b : ℕ) {g : List ℕ} {s : Bool} (cs : List ℕ) → Lead p g s → Numeral cs
+    → signOf p (afterBlanks (replicate b 32 ++ (g ++ cs))) ≡ Signed s (after 0 cs)
+head p b cs bare n = rw (blanks b cs) (sign-bare p cs n)
+head p b cs (with plus m h) n = rw (blanks b (43 ∷ (replicate m 32 ++ cs)), gap p m cs h n, numeral 0 cs n)
+head p b cs (with minus m h) n = rw (blanks b (45 ∷ (replicate m 32 ++ cs)), gap p m cs h n, numeral 0 cs n)
 
 -- the bytes fall apart at the point
 pub parts : (p : Bool) (d : ℕ) (hs ps : List ℕ) → length ps ≡ d
-    → mantissaOf p d (hs ++ (dot p ++ ps)) ≡ onPart (headOf hs) Wrong (λ s a. withSign s (digitsOf a ps))
+    → mantissaOf p d (hs ++ (dot p ++ ps)) ≡ onPart (headOf p hs) Wrong (λ s a. withSign s (digitsOf a ps))
 unfolding mantissaOf
 parts true d hs ps e =
     let t : length (hs ++ 46 ∷ ps) - d ≡ length hs + 1 = omega (arith, length-append hs (46 ∷ ps)) in
@@ -58,7 +69,7 @@ parts false d hs ps e =
 pub mantissa : (p : Bool) (d : ℕ) {bs : List ℕ} {s : Bool} {a : ℕ} → Spelt p d bs s a → mantissaOf p d bs ≡ Signed s a
 mantissa p d (spelt b {g} ws ps l n m e) =
     let q : replicate b 32 ++ (g ++ (ws ++ (dot p ++ ps))) ≡ (replicate b 32 ++ (g ++ ws)) ++ (dot p ++ ps) = simp append-assoc in
-    rw (q, parts p d (replicate b 32 ++ (g ++ ws)) ps e, head b ws l n, numeral (after 0 ws) ps m, after-append 0 ws ps)
+    rw (q, parts p d (replicate b 32 ++ (g ++ ws)) ps e, head p b ws l n, numeral (after 0 ws) ps m, after-append 0 ws ps)
 
 -- some byte is no blank
 data Inked : List ℕ → Type 0 where
@@ -94,7 +105,7 @@ scales : (s : Bool) (a : ℕ) (g : Sign) (ds : List ℕ) → Numeral ds → scal
 scales s a plus ds n = rw (numeral 0 ds n)
 scales s a minus ds n = rw (numeral 0 ds n)
 
-pub complete : (k : Shape) {bs : List ℕ} {r : Written} → Good k bs r → decimalOf k bs ≡ r
+pub complete : (k : Shape) {bs : List ℕ} {r : Written} → Good true k bs r → decimalOf k bs ≡ r
 unfolding decimalOf numberIn exponentOf
 complete k (blank _ n) = rw (all-blank n)
 complete k (whole {bs} w) =

@@ -3,3 +3,4 @@ pub mod Spelt
 pub mod Complete
 pub mod Sound
 pub mod Answer
+pub mod Wider

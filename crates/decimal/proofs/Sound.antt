@@ -9,9 +9,9 @@ use lib.ListN.{length, getD, take, drop, replicate, take-append-drop, length-dro
 use lib.Seq.{split-at, length-take-le}
 use borrow.Author.Tests.{eqb-true, leb-true, leb-false}
 use Rattle.words.specs.Tests.{pick}
-use Rattle.digits.specs.Segments.{afterBlanks, digitsOf, withSign, signOf, headOf, onPart, mantissaOf, exponentOf}
+use Rattle.digits.specs.Segments.{afterBlanks, afterGap, digitsOf, withSign, signOf, headOf, onPart, mantissaOf, exponentOf}
 use Rattle.decimal.specs.Scan.{numberIn, decimalOf, orBlank, plainOf, scaledOf}
-use Rattle.decimal.specs.Grammar.{Numeral, after, Sign, plus, minus, mark, negative, Lead, bare, with, signedOf, Good, blank, whole, fixed, expo}
+use Rattle.decimal.specs.Grammar.{Numeral, after, Sign, plus, minus, mark, negative, Gap, Lead, bare, with, signedOf, Good, blank, whole, fixed, expo}
 use Rattle.decimal.proofs.Spelt.{dot, Spelt, spelt, to-whole, to-point}
 use Rattle.decimal.specs.declared.Shape.{Shape}
 use Rattle.decimal.specs.declared.Shape.the-variants.{Whole, Fixed, Expo}
@@ -48,10 +48,10 @@ blanks (c ∷ cs) = go (eqb c 32) refl (blanks cs)
     go false e r = (0, refl)
 
 -- the parts of a head
-record Head (xs : List ℕ) (s : Bool) (a : ℕ) : Type 0 where
+record Head (p : Bool) (xs : List ℕ) (s : Bool) (a : ℕ) : Type 0 where
   sign : List ℕ
   rest : List ℕ
-  lead : Lead sign s
+  lead : Lead p sign s
   bytes : xs ≡ sign ++ rest
   numeral : Numeral rest
   value : after 0 rest ≡ a
@@ -60,41 +60,55 @@ unsigned : (t : Bool) (d : Digits) (s : Bool) (a : ℕ) → withSign t d ≡ Sig
 unsigned t (Count n) s a e = (cc, cc)
 unsigned t Stray s a e = absurd (not-wrong s a e)
 
-bare-head : (cs : List ℕ) (s : Bool) (a : ℕ) → withSign false (digitsOf 0 cs) ≡ Signed s a → Head cs s a
-bare-head cs s a e =
+bare-head : (p : Bool) (cs : List ℕ) (s : Bool) (a : ℕ) → withSign false (digitsOf 0 cs) ≡ Signed s a → Head p cs s a
+bare-head p cs s a e =
     let u = unsigned false (digitsOf 0 cs) s a e in
     let d = digits 0 cs a (u .1) in
-    record { sign = []; rest = cs; lead = subst (λ (t : Bool). Lead [] t) (u .0) bare; bytes = refl; numeral = d .0; value = d .1 }
+    record { sign = []; rest = cs; lead = subst (λ (t : Bool). Lead p [] t) (u .0) bare; bytes = refl; numeral = d .0; value = d .1 }
 
-signed-head : (g : Sign) (cs : List ℕ) (s : Bool) (a : ℕ) → withSign (negative g) (digitsOf 0 cs) ≡ Signed s a → Head (mark g ∷ cs) s a
-signed-head g cs s a e =
-    let u = unsigned (negative g) (digitsOf 0 cs) s a e in
-    let d = digits 0 cs a (u .1) in
-    record { sign = mark g ∷ []; rest = cs; lead = subst (λ (t : Bool). Lead (mark g ∷ []) t) (u .0) (with g); bytes = refl; numeral = d .0; value = d .1 }
+-- the blanks behind a sign, where there may be any
+gap : (p : Bool) (cs : List ℕ) → (n : ℕ) × Gap p n × (cs ≡ replicate n 32 ++ afterGap p cs)
+gap true cs = let b = blanks cs in (b .0, tt, b .1)
+gap false cs = (0, refl, refl)
 
-sign : (xs : List ℕ) (s : Bool) (a : ℕ) → signOf xs ≡ Signed s a → Head xs s a
-sign [] s a e = bare-head [] s a e
-sign (c ∷ cs) s a e = go (eqb c 45) (eqb c 43) refl refl e
+signed-head : (p : Bool) (g : Sign) (cs : List ℕ) (s : Bool) (a : ℕ) → withSign (negative g) (digitsOf 0 (afterGap p cs)) ≡ Signed s a
+    → Head p (mark g ∷ cs) s a
+signed-head p g cs s a e =
+    let u = unsigned (negative g) (digitsOf 0 (afterGap p cs)) s a e in
+    let d = digits 0 (afterGap p cs) a (u .1) in
+    let b = gap p cs in
+    record {
+      sign = mark g ∷ replicate (b .0) 32;
+      rest = afterGap p cs;
+      lead = subst (λ (t : Bool). Lead p (mark g ∷ replicate (b .0) 32) t) (u .0) (with g (b .0) (b .1));
+      bytes = ap (λ (l : List ℕ). mark g ∷ l) (b .2);
+      numeral = d .0;
+      value = d .1;
+    }
+
+sign : (p : Bool) (xs : List ℕ) (s : Bool) (a : ℕ) → signOf p xs ≡ Signed s a → Head p xs s a
+sign p [] s a e = bare-head p [] s a e
+sign p (c ∷ cs) s a e = go (eqb c 45) (eqb c 43) refl refl e
   where
     go : (b b′ : Bool) → eqb c 45 ≡ b → eqb c 43 ≡ b′
-        → pick b (withSign true (digitsOf 0 cs)) (pick b′ (withSign false (digitsOf 0 cs)) (withSign false (digitsOf 0 (c ∷ cs)))) ≡ Signed s a → Head
-        (c ∷ cs) s a
-    go true b′ m q h = rw (eqb-true c 45 m) (signed-head minus cs s a h)
-    go false true m q h = rw (eqb-true c 43 q) (signed-head plus cs s a h)
-    go false false m q h = bare-head (c ∷ cs) s a h
+        → pick b (withSign true (digitsOf 0 (afterGap p cs))) (pick b′ (withSign false (digitsOf 0 (afterGap p cs))) (withSign false (digitsOf 0 (c ∷ cs))))
+        ≡ Signed s a → Head p (c ∷ cs) s a
+    go true b′ m q h = rw (eqb-true c 45 m) (signed-head p minus cs s a h)
+    go false true m q h = rw (eqb-true c 43 q) (signed-head p plus cs s a h)
+    go false false m q h = bare-head p (c ∷ cs) s a h
 
 -- what a mantissa was read from: the head, the point where one is asked, the places
-record Taken (hs : List ℕ) (o : Bool) (ps : List ℕ) (s : Bool) (a : ℕ) : Type 0 where
+record Taken (p : Bool) (hs : List ℕ) (o : Bool) (ps : List ℕ) (s : Bool) (a : ℕ) : Type 0 where
   number : ℕ
-  front : headOf hs ≡ Signed s number
+  front : headOf p hs ≡ Signed s number
   point : o ≡ true
   places : digitsOf number ps ≡ Count a
 
-taken : (hs : List ℕ) (o : Bool) (ps : List ℕ) (s : Bool) (a : ℕ)
-    → onPart (headOf hs) Wrong (λ s a. pick o (withSign s (digitsOf a ps)) Wrong) ≡ Signed s a → Taken hs o ps s a
-taken hs o ps s a e = go (headOf hs) o refl refl e
+taken : (p : Bool) (hs : List ℕ) (o : Bool) (ps : List ℕ) (s : Bool) (a : ℕ)
+    → onPart (headOf p hs) Wrong (λ s a. pick o (withSign s (digitsOf a ps)) Wrong) ≡ Signed s a → Taken p hs o ps s a
+taken p hs o ps s a e = go (headOf p hs) o refl refl e
   where
-    go : (x : Part) (b : Bool) → headOf hs ≡ x → o ≡ b → onPart x Wrong (λ s a. pick b (withSign s (digitsOf a ps)) Wrong) ≡ Signed s a → Taken hs o ps s a
+    go : (x : Part) (b : Bool) → headOf p hs ≡ x → o ≡ b → onPart x Wrong (λ s a. pick b (withSign s (digitsOf a ps)) Wrong) ≡ Signed s a → Taken p hs o ps s a
     go (Signed u n) true q r f =
         let v = unsigned u (digitsOf n ps) s a f in
         record { number = n; front = q ∙ ap (λ (w : Bool). Signed w n) (v .0); point = r; places = v .1 }
@@ -102,9 +116,9 @@ taken hs o ps s a e = go (headOf hs) o refl refl e
     go Wrong b q r f = absurd (not-wrong s a f)
 
 -- a head, the point and the places make a number that is spelt so
-build : (p : Bool) (d : ℕ) (hs : List ℕ) (o : Bool) (ps : List ℕ) (s : Bool) (a : ℕ) → Taken hs o ps s a → length ps ≡ d → Spelt p d (hs ++ (dot p ++ ps)) s a
+build : (p : Bool) (d : ℕ) (hs : List ℕ) (o : Bool) (ps : List ℕ) (s : Bool) (a : ℕ) → Taken p hs o ps s a → length ps ≡ d → Spelt p d (hs ++ (dot p ++ ps)) s a
 build p d hs o ps s a x l =
-    let h = sign (afterBlanks hs) s (x .number) (x .front) in
+    let h = sign p (afterBlanks hs) s (x .number) (x .front) in
     let m = digits (x .number) ps a (x .places) in
     let b = blanks hs in
     let q : hs ++ (dot p ++ ps) ≡ replicate (b .0) 32 ++ (h .sign ++ (h .rest ++ (dot p ++ ps))) =
@@ -131,7 +145,7 @@ long-enough d bs s a e = go (leb (d + 1) (length bs)) refl
     go : (b : Bool) → leb (d + 1) (length bs) ≡ b → d + 1 ≤ length bs
     go true l = leb-true (d + 1) (length bs) l
     go false l =
-        let x = taken (take (length bs - d - 1) bs) (eqb (getD bs (length bs - d - 1) 0) 46) (drop (length bs - d) bs) s a e in
+        let x = taken true (take (length bs - d - 1) bs) (eqb (getD bs (length bs - d - 1) 0) 46) (drop (length bs - d) bs) s a e in
         let z : length bs - d ≡ 0 = omega (arith, leb-false (d + 1) (length bs) l) in
         absurd
         (point-first bs (x .number) a (subst (λ (n : ℕ). eqb (getD bs (n - 1) 0) 46 ≡ true) z (x .point))
@@ -140,7 +154,7 @@ long-enough d bs s a e = go (leb (d + 1) (length bs)) refl
 mantissa : (p : Bool) (d : ℕ) (bs : List ℕ) (s : Bool) (a : ℕ) → d + dots p ≤ length bs → mantissaOf p d bs ≡ Signed s a → Spelt p d bs s a
 unfolding mantissaOf
 mantissa true d bs s a l e =
-    let x = taken (take (length bs - d - 1) bs) (eqb (getD bs (length bs - d - 1) 0) 46) (drop (length bs - d) bs) s a e in
+    let x = taken true (take (length bs - d - 1) bs) (eqb (getD bs (length bs - d - 1) 0) 46) (drop (length bs - d) bs) s a e in
     let n : suc (length bs - d - 1) ≡ length bs - d = omega arith in
     let q : bs ≡ take (length bs - d - 1) bs ++ 46 ∷ drop (length bs - d) bs =
     split-at bs (length bs - d - 1) 0 (omega arith) ∙ simp (n, eqb-true (getD bs (length bs - d - 1) 0) 46 (x .point)) in
@@ -149,7 +163,7 @@ mantissa true d bs s a l e =
 mantissa false d bs s a l e =
     subst (λ (t : List ℕ). Spelt false d t s a) (take-append-drop (length bs - d) bs)
     (build false d (take (length bs - d) bs) true (drop (length bs - d) bs) s a
-    (taken (take (length bs - d) bs) true (drop (length bs - d) bs) s a e) (rw length-drop (omega arith)))
+    (taken false (take (length bs - d) bs) true (drop (length bs - d) bs) s a e) (rw length-drop (omega arith)))
 
 -- E, a sign and digits
 record Tail (xs : List ℕ) (s : Bool) (a : ℕ) : Type 0 where
@@ -181,14 +195,14 @@ exponent (c ∷ (g ∷ cs)) s a e = go (eqb c 69) (eqb g 45) (eqb g 43) refl ref
 
 -- the answer is well written, or it is that nothing with these bytes is
 pub data Found (k : Shape) (bs : List ℕ) : Written → Type 0 where
-  good : {r : Written} → Good k bs r → Found k bs r
+  good : {r : Written} → Good true k bs r → Found k bs r
   none : Found k bs Bad
 
 scaled : (d : ℕ) {bs : List ℕ} (fs xs : List ℕ) (s : Bool) (a : ℕ) (t : Bool) (n : ℕ) → Spelt true d fs s a → Tail xs t n → length xs ≡ 4 → bs ≡ fs ++ xs
-    → Good (Expo d) bs (Number (signedOf s a) (signedOf t n))
+    → Good true (Expo d) bs (Number (signedOf s a) (signedOf t n))
 scaled d fs xs s a t n w x l q =
-    subst (λ (b : List ℕ). Good (Expo d) b (Number (signedOf s a) (signedOf t n))) (sym (q ∙ ap (λ (b : List ℕ). fs ++ b) (x .bytes)))
-    (subst₂ (λ (u : Bool) (m : ℕ). Good (Expo d) (fs ++ 69 ∷ (mark (x .sign) ∷ x .rest)) (Number (signedOf s a) (signedOf u m))) (x .minus?) (x .value)
+    subst (λ (b : List ℕ). Good true (Expo d) b (Number (signedOf s a) (signedOf t n))) (sym (q ∙ ap (λ (b : List ℕ). fs ++ b) (x .bytes)))
+    (subst₂ (λ (u : Bool) (m : ℕ). Good true (Expo d) (fs ++ 69 ∷ (mark (x .sign) ∷ x .rest)) (Number (signedOf s a) (signedOf u m))) (x .minus?) (x .value)
     (expo (to-point w) (x .sign) (x .rest) (x .numeral) (omega (arith, ap length (x .bytes)))))
 
 -- bytes that are not all blank are not none

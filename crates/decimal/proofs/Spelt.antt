@@ -14,9 +14,10 @@ abbrev pub dot : Bool → List ℕ
 dot true = 46 ∷ []
 dot false = []
 
--- blanks, a sign or none, digits, the point where p says so, and d digits: the sign, and the number without the point
+-- blanks, a sign or none, blanks behind it where there is a point, digits, the point where p says so, and d digits: the sign, and the number without the
+-- point
 pub data Spelt (p : Bool) (d : ℕ) : List ℕ → Bool → ℕ → Type 0 where
-  spelt : (b : ℕ) {g : List ℕ} {s : Bool} (ws ps : List ℕ) → Lead g s → Numeral ws → Numeral ps → length ps ≡ d
+  spelt : (b : ℕ) {g : List ℕ} {s : Bool} (ws ps : List ℕ) → Lead p g s → Numeral ws → Numeral ps → length ps ≡ d
       → Spelt p d (replicate b 32 ++ (g ++ (ws ++ (dot p ++ ps)))) s (after 0 (ws ++ ps))
 
 -- bytes that are spelt so, and the signed number that they say
@@ -40,13 +41,13 @@ numeral-drop zero xs n = n
 numeral-drop (suc k) [] n = tt
 numeral-drop (suc k) (x ∷ xs) n = numeral-drop k xs (n .2)
 
-pub to-point : {d : ℕ} {bs : List ℕ} {s : Bool} {a : ℕ} → Spelt true d bs s a → PointNumber d bs (signedOf s a)
+pub to-point : {d : ℕ} {bs : List ℕ} {s : Bool} {a : ℕ} → Spelt true d bs s a → PointNumber true d bs (signedOf s a)
 to-point (spelt b ws ps l n m e) = point b ws ps l n m e
 
 pub to-whole : {bs : List ℕ} {s : Bool} {a : ℕ} → Spelt false 1 bs s a → WholeNumber bs (signedOf s a)
 to-whole (spelt b ws ps l n m e) = whole b (ws ++ ps) l (numeral-append ws ps n m) (omega (arith, length-append ws ps))
 
-pub of-point : {d : ℕ} {bs : List ℕ} {m : ℤ} → PointNumber d bs m → Mantissa true d bs m
+pub of-point : {d : ℕ} {bs : List ℕ} {m : ℤ} → PointNumber true d bs m → Mantissa true d bs m
 of-point (point b {g} {s} ws ps l n k e) = record { minus = s; digits = after 0 (ws ++ ps); spelt = spelt b ws ps l n k e; value = refl }
 
 pub of-whole : {bs : List ℕ} {m : ℤ} → WholeNumber bs m → Mantissa false 1 bs m

@@ -9,7 +9,7 @@ use native.Mathlib.Nat.{pow-suc, pow-le-pow-right}
 use native.Mathlib.Omega.{arith}
 use lib.ListN.{length, getD, drop}
 use lib.Seq.{slice, slice-cons, slice-empty, length-slice, take-length}
-use borrow.Author.Tests.{eq-eqb, ne-eqb, le-leb, lt-leb}
+use borrow.Author.Tests.{eq-eqb, ne-eqb, eqb-false, le-leb, lt-leb}
 use Rattle.words.specs.Tests.{pick}
 use Rattle.words.proofs.Laws.{within-true}
 use Rattle.digits.specs.Segments.{afterBlanks, digit?, digitsOf, Under, Small, withSign, signOf, signs, signedDigits, exponentOf, Is}
@@ -84,6 +84,31 @@ pub few : (f : List ℕ) (at end a d m : ℕ) → end ≤ length f → a < 10 ^ 
 few f at end a d m l h k =
     wider (d + length (slice at end f)) m (digitsOf a (slice at end f)) (rw (length-slice at end f l) k) (under (slice at end f) a d h)
 
+-- there are no more bytes behind the blanks
+pub shorter : (cs : List ℕ) → length (afterBlanks cs) ≤ length cs
+shorter [] = omega arith
+shorter (c ∷ cs) = go (eqb c 32) (shorter cs)
+  where
+    go : (b : Bool) → length (afterBlanks cs) ≤ length cs → length (pick b (afterBlanks cs) (c ∷ cs)) ≤ length (c ∷ cs)
+    go true h = omega arith
+    go false h = omega arith
+
+-- so digits behind blanks are no more than there are bytes
+pub few-behind : (f : List ℕ) (at end m : ℕ) → end ≤ length f → end - at ≤ m → Under (10 ^ m) (digitsOf 0 (afterBlanks (slice at end f)))
+few-behind f at end m l k =
+    let xs = slice at end f in
+    wider (0 + length (afterBlanks xs)) m (digitsOf 0 (afterBlanks xs)) (omega (arith, shorter xs, length-slice at end f l))
+    (under (afterBlanks xs) 0 0 (none-yet 0))
+
+-- what is left behind the blanks begins with no blank
+pub inked : (xs : List ℕ) (c : ℕ) (cs : List ℕ) → afterBlanks xs ≡ c ∷ cs → c ≡ 32 → ⊥
+inked [] c cs e q = let z : _≡_ {A = ℕ} 0 1 = cc in omega arith
+inked (x ∷ xs) c cs e q = go (eqb x 32) refl e (λ h. inked xs c cs h q)
+  where
+    go : (b : Bool) → eqb x 32 ≡ b → pick b (afterBlanks xs) (x ∷ xs) ≡ c ∷ cs → (afterBlanks xs ≡ c ∷ cs → ⊥) → ⊥
+    go true p h r = r h
+    go false p h r = eqb-false x 32 p ((let y : x ≡ c = cc in y) ∙ q)
+
 -- a part made of a sign and of digits that were read
 pub made : (s : Bool) (d : Digits) {x r : Part} → r ≡ withSign s d → Under (10 ^ 18) d → x ≡ withSign s d → Is 18 x r
 made s d {x} {r} e u q = record { is = e ∙ sym q; small = rw e (go d u) }
@@ -101,16 +126,16 @@ one-byte c = go (eqb c 45) (eqb c 43)
     go false true = omega arith
     go false false = omega arith
 
--- a sign or none at the front
-pub signed : (c : ℕ) (cs : List ℕ) → signOf (c ∷ cs) ≡ withSign (eqb c 45) (digitsOf 0 (drop (signs c) (c ∷ cs)))
-signed c cs = go (eqb c 45) (eqb c 43)
+-- a sign or none at the front, and blanks behind the sign
+pub signed : (c : ℕ) (cs : List ℕ) → (c ≡ 32 → ⊥) → signOf true (c ∷ cs) ≡ withSign (eqb c 45) (digitsOf 0 (afterBlanks (drop (signs c) (c ∷ cs))))
+signed c cs n = go (eqb c 45) (eqb c 43)
   where
     go : (a b : Bool)
-        → pick a (withSign true (digitsOf 0 cs)) (pick b (withSign false (digitsOf 0 cs)) (withSign false (digitsOf 0 (c ∷ cs))))
-        ≡ withSign a (digitsOf 0 (drop (pick a 1 (pick b 1 0)) (c ∷ cs)))
+        → pick a (withSign true (digitsOf 0 (afterBlanks cs))) (pick b (withSign false (digitsOf 0 (afterBlanks cs))) (withSign false (digitsOf 0 (c ∷ cs))))
+        ≡ withSign a (digitsOf 0 (afterBlanks (drop (pick a 1 (pick b 1 0)) (c ∷ cs))))
     go true b = refl
     go false true = refl
-    go false false = refl
+    go false false = ap (λ (b : Bool). withSign false (digitsOf 0 (pick b (afterBlanks cs) (c ∷ cs)))) (sym (ne-eqb c 32 n))
 
 -- an exponent by its bytes
 pub exp-is : (f : List ℕ) (at : ℕ) → at + 4 ≡ length f

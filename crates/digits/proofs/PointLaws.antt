@@ -14,15 +14,7 @@ use Rattle.digits.specs.declared.Digits.{Digits}
 use Rattle.digits.specs.declared.Digits.the-variants.{Count, Stray}
 use Rattle.digits.specs.declared.Part.{Part}
 use Rattle.digits.specs.declared.Part.the-variants.{Signed, Wrong}
-use Rattle.digits.proofs.Laws.{one, none, few, none-yet, one-byte, signed}
-
-shorter : (cs : List ℕ) → length (afterBlanks cs) ≤ length cs
-shorter [] = omega arith
-shorter (c ∷ cs) = go (eqb c 32) (shorter cs)
-  where
-    go : (b : Bool) → length (afterBlanks cs) ≤ length cs → length (pick b (afterBlanks cs) (c ∷ cs)) ≤ length (c ∷ cs)
-    go true h = omega arith
-    go false h = omega arith
+use Rattle.digits.proofs.Laws.{one, none, few, shorter, few-behind, inked, one-byte, signed}
 
 -- a rest of the bytes is not all of them and one more
 too-long : (k : ℕ) (c : ℕ) (cs : List ℕ) → drop k cs ≡ c ∷ cs → ⊥
@@ -66,27 +58,28 @@ module _ (f : List ℕ) (from h end : ℕ) where
   unfolding pointedOf
   late l = rw (lt-leb from h l)
 
-  pub stray : from ≤ h → digitsOf 0 (slice from h f) ≡ Stray → pointedOf f from h end ≡ Stray
+  pub stray : from ≤ h → digitsOf 0 (afterBlanks (slice from h f)) ≡ Stray → pointedOf f from h end ≡ Stray
   unfolding pointedOf
   stray l e = rw (le-leb from h l, e)
 
-  pub pointless : (a : ℕ) → from ≤ h → digitsOf 0 (slice from h f) ≡ Count a → (getD f h 0 ≡ 46 → ⊥) → pointedOf f from h end ≡ Stray
+  pub pointless : (a : ℕ) → from ≤ h → digitsOf 0 (afterBlanks (slice from h f)) ≡ Count a → (getD f h 0 ≡ 46 → ⊥) → pointedOf f from h end ≡ Stray
   unfolding pointedOf
   pointless a l e n = rw (le-leb from h l, e, ne-eqb (getD f h 0) 46 n)
 
-  pub both : (a : ℕ) → from ≤ h → digitsOf 0 (slice from h f) ≡ Count a → getD f h 0 ≡ 46 → pointedOf f from h end ≡ digitsOf a (slice (h + 1) end f)
+  pub both : (a : ℕ) → from ≤ h → digitsOf 0 (afterBlanks (slice from h f)) ≡ Count a → getD f h 0 ≡ 46
+      → pointedOf f from h end ≡ digitsOf a (slice (h + 1) end f)
   unfolding pointedOf
   both a l e q = rw (le-leb from h l, e, eq-eqb (getD f h 0) 46 q)
 
   -- they fit
-  pub head-few : (d : Digits) → d ≡ digitsOf 0 (slice from h f) → h ≤ length f → from ≤ h → Under (10 ^ (h - from)) d
-  head-few d e l k = rw e (few f from h 0 0 (h - from) l (none-yet 0) (omega arith))
+  pub head-few : (d : Digits) → d ≡ digitsOf 0 (afterBlanks (slice from h f)) → h ≤ length f → from ≤ h → Under (10 ^ (h - from)) d
+  head-few d e l k = rw e (few-behind f from h (h - from) l (omega arith))
 
   pub fits : h < end → end ≤ length f → end ≤ 18 → Under (10 ^ 18) (pointedOf f from h end)
   unfolding pointedOf
-  fits l k m = go (leb from h) refl (digitsOf 0 (slice from h f)) refl (eqb (getD f h 0) 46)
+  fits l k m = go (leb from h) refl (digitsOf 0 (afterBlanks (slice from h f))) refl (eqb (getD f h 0) 46)
     where
-      go : (b : Bool) → leb from h ≡ b → (d : Digits) → d ≡ digitsOf 0 (slice from h f) → (c : Bool)
+      go : (b : Bool) → leb from h ≡ b → (d : Digits) → d ≡ digitsOf 0 (afterBlanks (slice from h f)) → (c : Bool)
           → Under (10 ^ 18) (pick b (onDigits d (λ a. pick c (digitsOf a (slice (h + 1) end f)) Stray)) Stray)
       go true p (Count a) q true = few f (h + 1) end a (h - from) 18 k (head-few (Count a) q (omega arith) (leb-true from h p)) (omega arith)
       go true p (Count a) q false = tt
@@ -107,25 +100,26 @@ all-wrong Wrong = refl
 -- the part of a mantissa that stands from k on, up to the point at h
 module _ (f : List ℕ) (k h end : ℕ) where
   -- a byte before the point
-  early : k < h → h ≤ length f → onPart (signOf (slice k h f)) Wrong (λ s a. pick (eqb (getD f h 0) 46) (withSign s (digitsOf a (slice (h + 1) end f))) Wrong)
+  early : k < h → h ≤ length f → (getD f k 0 ≡ 32 → ⊥)
+      → onPart (signOf true (slice k h f)) Wrong (λ s a. pick (eqb (getD f h 0) 46) (withSign s (digitsOf a (slice (h + 1) end f))) Wrong)
       ≡ withSign (eqb (getD f k 0) 45) (pointedOf f (k + signs (getD f k 0)) h end)
   unfolding pointedOf
-  early l m =
+  early l m ink =
       let c = getD f k 0 in
-      let q : signOf (slice k h f) ≡ withSign (eqb c 45) (digitsOf 0 (slice (k + signs c) h f)) =
-      ap signOf (one f k h l m) ∙ signed c (slice (k + 1) h f)
-      ∙ ap (λ (x : List ℕ). withSign (eqb c 45) (digitsOf 0 (drop (signs c) x))) (sym (one f k h l m))
-      ∙ ap (λ (x : List ℕ). withSign (eqb c 45) (digitsOf 0 x)) (drop-drop (signs c) k (take h f)) in
+      let q : signOf true (slice k h f) ≡ withSign (eqb c 45) (digitsOf 0 (afterBlanks (slice (k + signs c) h f))) =
+      ap (signOf true) (one f k h l m) ∙ signed c (slice (k + 1) h f) ink
+      ∙ ap (λ (x : List ℕ). withSign (eqb c 45) (digitsOf 0 (afterBlanks (drop (signs c) x)))) (sym (one f k h l m))
+      ∙ ap (λ (x : List ℕ). withSign (eqb c 45) (digitsOf 0 (afterBlanks x))) (drop-drop (signs c) k (take h f)) in
       rw (q, le-leb (k + signs c) h (omega (arith, one-byte c)))
-      (joins (eqb c 45) (digitsOf 0 (slice (k + signs c) h f)) (eqb (getD f h 0) 46) (slice (h + 1) end f))
+      (joins (eqb c 45) (digitsOf 0 (afterBlanks (slice (k + signs c) h f))) (eqb (getD f h 0) 46) (slice (h + 1) end f))
 
 -- the byte at the point's own place
-at-point : (f : List ℕ) (h end : ℕ) → onPart (signOf (slice h h f)) Wrong
+at-point : (f : List ℕ) (h end : ℕ) → onPart (signOf true (slice h h f)) Wrong
     (λ s a. pick (eqb (getD f h 0) 46) (withSign s (digitsOf a (slice (h + 1) end f))) Wrong)
     ≡ withSign (eqb (getD f h 0) 45) (pointedOf f (h + signs (getD f h 0)) h end)
 at-point f h end = rw (none f h h (omega arith) (omega arith)) (go (eqb (getD f h 0) 45) (eqb (getD f h 0) 43) refl refl)
   where
-    empty : digitsOf 0 (slice h h f) ≡ Count 0
+    empty : digitsOf 0 (afterBlanks (slice h h f)) ≡ Count 0
     empty = rw (none f h h (omega arith) (omega arith))
 
     bare : (p : Bool) → eqb (getD f h 0) 46 ≡ p → pick p (withSign false (digitsOf 0 (slice (h + 1) end f))) Wrong ≡ withSign false (pointedOf f h h end)
@@ -150,7 +144,7 @@ module _ (f : List ℕ) (k d end : ℕ) (skips : Skipped f 0 (length f) k) (hd :
   after = ap (drop k) (sym (take-length f)) ∙ skips .rest ∙ ap afterBlanks (take-length f)
 
   cut : mantissaOf true d (take end f)
-      ≡ onPart (headOf (take (end - d - 1) f)) Wrong
+      ≡ onPart (headOf true (take (end - d - 1) f)) Wrong
       (λ s a. pick (eqb (getD f (end - d - 1) 0) 46) (withSign s (digitsOf a (slice (end - d - 1 + 1) end f))) Wrong)
   unfolding mantissaOf
   cut =
@@ -158,15 +152,19 @@ module _ (f : List ℕ) (k d end : ℕ) (skips : Skipped f 0 (length f) k) (hd :
       rw (e, length-take-le end f he, take-take (end - d - 1) end f (omega arith), getD-take end f (end - d - 1) 0 (omega arith))
 
   pub blank-point : end - d - 1 < k → mantissaOf true d (take end f) ≡ Wrong
-  blank-point l = cut ∙ rw (before f k (end - d - 1) after (skips .upto) l) (all-wrong (headOf (take (end - d - 1) f)))
+  blank-point l = cut ∙ rw (before f k (end - d - 1) after (skips .upto) l) (all-wrong (headOf true (take (end - d - 1) f)))
 
   pub from-byte : k ≤ end - d - 1
       → mantissaOf true d (take end f) ≡ withSign (eqb (getD f k 0) 45) (pointedOf f (k + signs (getD f k 0)) (end - d - 1) end)
   from-byte l = cut ∙ rw (front f k (end - d - 1) after l) (go (eqb k (end - d - 1)) refl)
     where
+      ink : getD f k 0 ≡ 32 → ⊥
+      ink = inked f (getD f k 0) (slice (k + 1) (length f) f)
+          (sym after ∙ ap (drop k) (sym (take-length f)) ∙ one f k (length f) (omega arith) (omega arith))
+
       go : (b : Bool) → eqb k (end - d - 1) ≡ b
-          → onPart (signOf (slice k (end - d - 1) f)) Wrong
+          → onPart (signOf true (slice k (end - d - 1) f)) Wrong
           (λ s a. pick (eqb (getD f (end - d - 1) 0) 46) (withSign s (digitsOf a (slice (end - d - 1 + 1) end f))) Wrong)
           ≡ withSign (eqb (getD f k 0) 45) (pointedOf f (k + signs (getD f k 0)) (end - d - 1) end)
       go true e = rw (eqb-true k (end - d - 1) e) (at-point f (end - d - 1) end)
-      go false e = let n = eqb-false k (end - d - 1) e in early f k (end - d - 1) end (omega (arith, n)) (omega arith)
+      go false e = let n = eqb-false k (end - d - 1) e in early f k (end - d - 1) end (omega (arith, n)) (omega arith) ink

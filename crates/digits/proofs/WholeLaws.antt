@@ -26,7 +26,7 @@ wholeOf c cs = pick (eqb c 45) (some true cs) (pick (eqb c 43) (some false cs) (
 
 -- the mantissa with its head cut at m
 abbrev cut : ℕ → List ℕ → Part
-cut m f = onPart (headOf (take m f)) Wrong (λ s a. withSign s (digitsOf a (drop m f)))
+cut m f = onPart (headOf false (take m f)) Wrong (λ s a. withSign s (digitsOf a (drop m f)))
 
 cut-is : (f : List ℕ) → mantissaOf false 1 f ≡ cut (length f - 1) f
 unfolding mantissaOf

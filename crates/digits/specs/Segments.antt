@@ -32,16 +32,21 @@ abbrev pub withSign : Bool → Digits → Part
 withSign s (Count a) = Signed s a
 withSign s Stray = Wrong
 
+-- what follows a sign: blanks may stand there where a gap is allowed
+abbrev pub afterGap : Bool → List ℕ → List ℕ
+afterGap true cs = afterBlanks cs
+afterGap false cs = cs
+
 -- a sign, or none, and digits
-abbrev pub signOf : List ℕ → Part
-signOf [] = Signed false 0
-signOf (c ∷ cs) =
-    pick (eqb c 45) (withSign true (digitsOf 0 cs))
-    (pick (eqb c 43) (withSign false (digitsOf 0 cs)) (withSign false (digitsOf 0 (c ∷ cs))))
+abbrev pub signOf : Bool → List ℕ → Part
+signOf gap [] = Signed false 0
+signOf gap (c ∷ cs) =
+    pick (eqb c 45) (withSign true (digitsOf 0 (afterGap gap cs)))
+    (pick (eqb c 43) (withSign false (digitsOf 0 (afterGap gap cs))) (withSign false (digitsOf 0 (c ∷ cs))))
 
 -- blanks, a sign or none, and digits
-abbrev pub headOf : List ℕ → Part
-headOf hs = signOf (afterBlanks hs)
+abbrev pub headOf : Bool → List ℕ → Part
+headOf gap hs = signOf gap (afterBlanks hs)
 
 -- how many bytes of a number's front are its sign, by its first byte
 abbrev pub signs : ℕ → ℕ
@@ -52,10 +57,10 @@ abbrev pub onDigits : Digits → (ℕ → Digits) → Digits
 onDigits (Count a) g = g a
 onDigits Stray g = Stray
 
--- the digits from a place up to the point at h, the point, and the digits up to e; Stray where that place is behind the point's
+-- behind blanks, the digits from a place up to the point at h, the point, and the digits up to e; Stray where that place is behind the point's
 unfoldable pub pointedOf : List ℕ → ℕ → ℕ → ℕ → Digits
 pointedOf f from h e =
-    pick (leb from h) (onDigits (digitsOf 0 (slice from h f)) (λ a. pick (eqb (getD f h 0) 46) (digitsOf a (slice (h + 1) e f)) Stray)) Stray
+    pick (leb from h) (onDigits (digitsOf 0 (afterBlanks (slice from h f))) (λ a. pick (eqb (getD f h 0) 46) (digitsOf a (slice (h + 1) e f)) Stray)) Stray
 
 -- what is to follow a part that was read, or that it was not
 abbrev pub onPart : {A : Type 0} → Part → A → (Bool → ℕ → A) → A
@@ -72,12 +77,12 @@ abbrev pub point? : Bool → ℕ → Bool
 point? true c = eqb c 46
 point? false c = true
 
--- blanks, a sign or none, digits, the point where p says so, and d digits
+-- blanks, a sign or none, digits, the point where p says so, and d digits; blanks may stand behind the sign where there is a point
 unfoldable pub mantissaOf : Bool → ℕ → List ℕ → Part
 mantissaOf p d bs =
     let tail = length bs - d in
     let head = pointed p tail in
-    onPart (headOf (take head bs)) Wrong (λ s a. pick (point? p (getD bs head 0)) (withSign s (digitsOf a (drop tail bs))) Wrong)
+    onPart (headOf p (take head bs)) Wrong (λ s a. pick (point? p (getD bs head 0)) (withSign s (digitsOf a (drop tail bs))) Wrong)
 
 -- the sign and the digits of an exponent
 abbrev pub signedDigits : ℕ → List ℕ → Part

@@ -82,7 +82,7 @@ fn behind(f: &[u8], k: usize) -> usize
     k
 }
 
-// Digits up to the point, the point, and the digits up to `end`.
+// Behind blanks, digits up to the point, the point, and the digits up to `end`.
 fn pointed(f: &[u8], from: usize, point: usize, end: usize) -> Digits
     requires { ⌜ (point < end) × (end ≤ length (now f)) × (end ≤ 18) ⌝ }
     ensures { λ r. ⌜ r ≡ pointedOf (now (f .entry)) from point end ⌝ }
@@ -90,7 +90,7 @@ fn pointed(f: &[u8], from: usize, point: usize, end: usize) -> Digits
     if point < from {
         return Digits::Stray;
     }
-    match run(f, from, point, 0) {
+    match run(f, skip(f, from, point), point, 0) {
         Digits::Count(a) => {
             if f[point] != b'.' {
                 return Digits::Stray;
@@ -102,7 +102,7 @@ fn pointed(f: &[u8], from: usize, point: usize, end: usize) -> Digits
 }
 
 // The mantissa of the bytes up to `end`, from the field's first byte that is no blank on: a sign or none,
-// digits, the point and the places. Each byte is looked at once, by its place in the field (docs/SPEED.md).
+// blanks behind it (document 02, No. 4), digits, the point and the places. Each byte is looked at once, by its place in the field (docs/SPEED.md).
 pub fn mantissa(f: &[u8], k: usize, places: usize, end: usize) -> Part
     requires { ⌜ Skipped (now f) 0 (length (now f)) k ⌝ }
     requires { ⌜ (k < length (now f)) × (places + 1 ≤ end) ⌝ }

@@ -72,7 +72,7 @@ refusal-number : (n p n′ p′ : ℕ) → refusal n p ≡ refusal n′ p′ →
 refusal-number n p n′ p′ q = let w = numbers-of q in cc
 
 -- all that is blank, and nothing else, is a blank field
-all-blank : {s : Shape} {bs : List ℕ} {r : Written} → Good s bs r → r ≡ Blank → bs ≡ replicate (length bs) 32
+all-blank : {s : Shape} {bs : List ℕ} {r : Written} → Good true s bs r → r ≡ Blank → bs ≡ replicate (length bs) 32
 all-blank (blanks s n) e = ap (λ (i : ℕ). replicate i 32) (sym (length-replicate {A = ℕ} n 32))
 all-blank (whole w) e = cc
 all-blank (fixed w) e = cc
@@ -116,7 +116,7 @@ module _ (b : List ℕ) (at : ℕ) (k : Form) (here : at + widthOf k ≤ length 
               let f = of-read k (fieldBytes b at k) Blank (blank-of at _ (sym told ∙ q)) (λ z. let c : _≡_ {A = ℕ} 0 1 = cc in omega arith) in
               all-blank (f .1) refl ∙ ap (λ (i : ℕ). replicate i 32) bs-length,
           λ e. told ∙ ap (λ (w : Written). fieldAs (fromWritten at w))
-              (reads k (fieldBytes b at k) Blank (bs-length, subst (λ (l : List ℕ). Good (shapeOf k) l Blank) (sym e) (blanks (shapeOf k) (widthOf k)))),
+              (reads k (fieldBytes b at k) Blank (bs-length, subst (λ (l : List ℕ). Good true (shapeOf k) l Blank) (sym e) (blanks (shapeOf k) (widthOf k)))),
         );
         refused = (
           λ q. none-of k (fieldBytes b at k) (bad-of at _ (sym told ∙ q)),

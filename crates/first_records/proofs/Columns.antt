@@ -1,6 +1,7 @@
 -- What is written in columns is read: as many digits as there are columns, which say the number where it is below the power of ten, by induction over the
 -- columns; so a field of those bytes is well written and says it.
 use Prim.Native.Nat.{ℕ, zero, suc, _+_, _*_, _-_, _/_, _%_, _^_, _≤_, _<_}
+use mathlib.Core.Bool.{true}
 use mathlib.Core.Path.{_≡_, refl, sym, ap, _∙_, subst}
 use mathlib.Core.List.{List, [], _∷_, _++_}
 use native.Mathlib.Omega.{arith}
@@ -55,10 +56,10 @@ pub columns-bytes : (w n : ℕ) → Bytes (columns w n)
 columns-bytes w n = numeral-bytes (columns w n) (spelt w n .digits)
 
 -- digits alone are a whole number
-columns-good : (w n : ℕ) → 1 ≤ w → n < 10 ^ w → Good Whole (columns w n) (Number (pos n) (pos 0))
+columns-good : (w n : ℕ) → 1 ≤ w → n < 10 ^ w → Good true Whole (columns w n) (Number (pos n) (pos 0))
 columns-good w n h l =
     let s = spelt w n in
-    subst (λ (m : ℕ). Good Whole (columns w n) (Number (pos m) (pos 0))) (s .value l)
+    subst (λ (m : ℕ). Good true Whole (columns w n) (Number (pos m) (pos 0))) (s .value l)
     (Good.whole (WholeNumber.whole 0 (columns w n) bare (s .digits) (let e = s .size in omega arith)))
 
 -- a field of those bytes says the number, and lies in a range that its columns hold
@@ -68,7 +69,7 @@ module _ (r : List ℕ) (byte : ℕ) (k : Form) (plain : shapeOf k ≡ Whole) (w
       record {
         says = subst (λ (bs : List ℕ). grammar.WellWritten k bs (Number (pos n) (pos 0))) (sym e) (
           spelt (widthOf k) n .size,
-          subst (λ (s : Shape). Good s (columns (widthOf k) n) (Number (pos n) (pos 0))) (sym plain) (columns-good (widthOf k) n wide (omega arith)),
+          subst (λ (s : Shape). Good true s (columns (widthOf k) n) (Number (pos n) (pos 0))) (sym plain) (columns-good (widthOf k) n wide (omega arith)),
         );
         least = h .low;
         most = h .high;

@@ -102,5 +102,6 @@ pub record Lined (p : Plan) : Type 0 where
   pub small : Small (runCounts image p) (runLengths image p)
   pub lines : p .n ≤ 999999
   pub long : p .l ≤ 99999999
+  -- 192, the least that stands ahead of a line's pixels in either sort, is enough here
   pub room : 1 ≤ p .n → 192 + p .d + p .s ≤ p .l
   pub paired : 1 ≤ p .n → p .d ≡ groupOf p * p .w

@@ -157,7 +157,7 @@ header-take ordinal c long n b h =
 -- ---- number fields
 
 -- a whole number has no exponent
-pub no-exponent : {s : Shape} {bs : List ℕ} {r : Written} → Good s bs r → s ≡ Whole → (m e : ℤ) → r ≡ Number m e → e ≡ pos 0
+pub no-exponent : {s : Shape} {bs : List ℕ} {r : Written} → Good true s bs r → s ≡ Whole → (m e : ℤ) → r ≡ Number m e → e ≡ pos 0
 no-exponent (blanks s n) q m e z = cc
 no-exponent (whole w) q m e z = cc
 no-exponent (fixed w) q m e z = cc

@@ -1,16 +1,23 @@
 -- `wider`: an edition that allows more accepts every file that a narrower one accepts, with the same plan. Each rule of the narrower edition gives the wider
 -- one's, record by record; the records behind the first are the same, one by one.
-use Prim.Native.Nat.{ℕ, zero, suc, _+_, _≤_}
+use Prim.Native.Nat.{ℕ, zero, suc, _+_, _*_, _≤_}
 use mathlib.Core.Path.{_≡_, refl, ap, _∙_, subst}
 use mathlib.Core.List.{List, [], _∷_, _++_}
 use native.Mathlib.Omega.{arith}
 use lib.ListN.{getD, replicate}
+use lib.IntN.{pos}
+use Rattle.words.specs.Words.{placeOf}
 use Rattle.decimal.specs.declared.Form.{Form}
+use Rattle.decimal.specs.declared.Form.the-variants.{I6, I16, F8d3, F16d7, E20d13}
+use Rattle.decimal.specs.declared.Written.{Written}
+use Rattle.decimal.specs.declared.Written.the-variants.{Number, Blank}
+use Rattle.decimal.proofs.Wider as grammar
+use Rattle.fields.specs.Field.{fieldBytes}
 use Rattle.plan.specs.declared.Plan.{Plan}
 use Rattle.promises.specs.Edition.{Edition, base, newest, Wider}
 use Rattle.promises.specs.Rules.{Kind, volume, leader, image, trailer, Due, Record, Follow}
 use Rattle.promises.specs.Rules.{textRecord, slotRecords, facilityRecords, slotDue, facilityDue}
-use Rattle.promises.specs.Rules.{free, Numbered, Readable, Pair, blank, none, some, VolumeDescriptor, Pointer, LeaderDescriptor, Summary, Map}
+use Rattle.promises.specs.Rules.{free, Says, Numbered, Readable, Pair, blank, none, some, VolumeDescriptor, Pointer, LeaderDescriptor, Summary, Map}
 use Rattle.promises.specs.Rules.{ImageDescriptor, First, promised, Accepted, pointer, lineDue}
 use Rattle.promises.specs.Newest as now
 
@@ -68,12 +75,19 @@ unread p =
 module _ (e f : Edition) (w : Wider e f) where
   -- ---- fields
 
+  -- what a field says by the narrower edition it says by the wider one
+  pub says : (r : List ℕ) (byte : ℕ) (k : Form) (x : Written) → Says e r byte k x → Says f r byte k x
+  says r byte k x s = grammar.wider (e .gaps) (f .gaps) (w .gaps) k (fieldBytes r (placeOf byte) k) x s
+
+  readable : (r : List ℕ) (byte : ℕ) (k : Form) → Readable e r byte k → Readable f r byte k
+  readable r byte k x = (x .0, says r byte k (x .0) (x .1))
+
   numbered : {r : List ℕ} {byte : ℕ} {k : Form} {lo hi n : ℕ} → Numbered e r byte k lo hi n → Numbered f r byte k lo hi n
-  numbered x = record { says = x .says; least = x .least; most = x .most }
+  numbered {r} {byte} {k} {n = n} x = record { says = says r byte k (Number (pos n) (pos 0)) (x .says); least = x .least; most = x .most }
 
   paired : {r : List ℕ} {byte : ℕ} {k : Form} {least most shortest longest count long : ℕ} → Pair e r byte k least most shortest longest count long
       → Pair f r byte k least most shortest longest count long
-  paired (blank s h) = blank s h
+  paired {r} {byte} (blank s h) = blank (says r byte I6 Blank s) h
   paired (none n) = none (numbered n)
   paired (some n l) = some (numbered n) (numbered l)
 
@@ -83,10 +97,18 @@ module _ (e f : Edition) (w : Wider e f) where
   pointed m k r x = record { class = x .class; counted = (x .counted .0, numbered (x .counted .1)); first = numbered (x .first) }
 
   summed : (k : ℕ) (r : List ℕ) → Summary e k r → Summary f k r
-  summed k r x = record { one = x .one; two = x .two; three = x .three; four = x .four; six = x .six }
+  summed k r x =
+      record {
+        one = readable r 477 F8d3 (x .one);
+        two = readable r 711 F16d7 (x .two);
+        three = readable r 743 F16d7 (x .three);
+        four = readable r 935 F16d7 (x .four);
+        six = λ i h. readable r (1887 + 20 * i) E20d13 (x .six i h);
+      }
 
   mapped : (k : ℕ) (r : List ℕ) → Map e k r → Map f k r
-  mapped k r x = record { eleven = x .eleven; twelve = x .twelve; thirteen = x .thirteen }
+  mapped k r x =
+      record { eleven = readable r 61 I16 (x .eleven); twelve = readable r 77 I16 (x .twelve); thirteen = readable r 93 F16d7 (x .thirteen) }
 
   -- the first record of a kind
   first : (kind : Kind) (r : List ℕ) (p : Plan) → First e kind r p → First f kind r p
@@ -160,6 +182,6 @@ module _ (e f : Edition) (w : Wider e f) where
 -- every image of counts that document 01's rules accept is accepted, with the same plan and sort 0
 pub counts-stay : (bs : List ℕ) (a : Accepted base image bs) → (b : now.Accepted image bs) × (b .plan ≡ a .plan) × (b .plan .sort ≡ 0)
 counts-stay bs a =
-    let b = wider base newest (record { sorts = omega arith }) image bs a in
+    let b = wider base newest (record { sorts = omega arith; gaps = λ q. refl }) image bs a in
     let none : a .plan .sort ≡ 0 = let h = a .begins .known in omega arith in
     (b .0, b .1, ap (λ (p : Plan). p .sort) (b .1) ∙ none)

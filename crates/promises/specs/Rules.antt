@@ -152,7 +152,7 @@ module _ (e : Edition) where
 
   -- the field of that form from that byte on is well written and says this
   abbrev pub Says : List ℕ → ℕ → Form → Written → Type 0
-  Says r byte k w = grammar.WellWritten k (fieldBytes r (placeOf byte) k) w
+  Says r byte k w = grammar.WellWrittenBy (e .gaps) k (fieldBytes r (placeOf byte) k) w
 
   -- it says the number n, which lies in a range
   pub record Numbered (r : List ℕ) (byte : ℕ) (k : Form) (lo hi n : ℕ) : Type 0 where

@@ -2,6 +2,7 @@
 
 `block` is the number of the block in its sort, from 0; all else comes from `rng`, so that sort, block and seed
 give the same questions again."""
+import itertools
 import random
 from typing import Callable, Iterator
 
@@ -261,6 +262,28 @@ def fields(rng: random.Random, ask: Asking, block: int) -> None:
         for length in (last - 1, first - 1, rng.randint(0, size), 0):
             ask.field(0, length, number)
         ask.field(0, rng.choice((0, 1, size, rng.randint(0, size))), rng.choice((0, 14, 15, 256 + number, 2 ** 32 + number, *HUGE)))
+
+
+def filled(form: str, letters: bytes) -> Iterator[bytes]:
+    """The bytes ahead of the point filled with these letters in every way."""
+    tail = b'.' + b'5' * make.PLACES[form] + (b'E-05' if form[0] == 'E' else b'')
+    return (bytes(lead) + tail for lead in itertools.product(letters, repeat=make.WIDTH[form] - len(tail)))
+
+
+# Listed fields 1, 5 and 2 (F8.3, E20.13, F16.7): a sign, blanks and digits in every place ahead of the point, and in the exponent.
+SIGNED = [(1, text) for text in filled('F8.3', b' +-5')] + [(5, text) for text in filled('E20.13', b' +-5')]
+SIGNED += [(5, b' 5.5555555555555E' + bytes(tail)) for tail in itertools.product(b' +-5', repeat=3)]
+SIGNED += [(2, text) for sign in (b'-', b'+') for text in filled('F16.7', b' 5' + sign)]
+SIGNED_BLOCK = 100
+
+
+def signs(rng: random.Random, ask: Asking, block: int) -> None:
+    """Blanks behind a sign, and every other place of both (document 02, No. 4): so many texts a block, until all were asked."""
+    ask.hold(b' ' * 2006)
+    for at in range(SIGNED_BLOCK * block, SIGNED_BLOCK * (block + 1)):
+        number, text = SIGNED[at % len(SIGNED)]
+        ask.put(reader.LISTED[number][0] - 1, text)
+        ask.field(0, 2006, number)
 
 
 def numbers(rng: random.Random, ask: Asking, block: int) -> None:
@@ -583,7 +606,7 @@ def sample_arrays(rng: random.Random, ask: Asking) -> None:
 
 # sort: its share of a thousand cases
 SORTS: dict[Sort, int] = {
-    whole: 60, broken: 150, damaged: 110, cuts: 150, pieces: 80, states: 110, begins: 5, far: 40, fields: 100, numbers: 60,
+    whole: 60, broken: 150, damaged: 110, cuts: 150, pieces: 80, states: 110, begins: 5, far: 40, fields: 100, signs: 100, numbers: 60,
     lines: 60, rows: 40, sets: 25, listing: 10, arrays: 25, cards_read: 60, card_cuts: 30, card_numbers: 30, cards_built: 40,
     samples_and_powers: 100, powers: 30,
 }

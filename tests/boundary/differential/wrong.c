@@ -96,11 +96,19 @@ uint64_t OURS(sbg_start)(const uint64_t *state, size_t state_len) {
   return wrong("start-32-bits") ? start & 0xFFFFFFFF : start;
 }
 
+/* In listed field 2, which has come, a blank stands behind a sign. */
+static int has_gap(const uint8_t *bytes) {
+  for (int at = 710; at < 725; at++)
+    if ((bytes[at] == '-' || bytes[at] == '+') && bytes[at + 1] == ' ') return 1;
+  return 0;
+}
+
 uint64_t OURS(sbg_field)(const uint8_t *bytes, size_t len, uint64_t number, int64_t *value, size_t value_len,
                          uint64_t *answer, size_t answer_len) {
   uint64_t returned = REAL(sbg_field)(bytes, len, number, value, value_len, answer, answer_len);
   int is_value = returned && answer[SBG_TAG] == SBG_IS_VALUE;
   if (is_value && value[0] < 0 && value[0] > -10000000 && wrong("minus-lost")) value[0] = -value[0];
+  if (is_value && number == 2 && has_gap(bytes) && wrong("gap-minus-lost")) value[0] = value[0] < 0 ? -value[0] : value[0];
   if (is_value && value[1] < 0 && wrong("exponent-sign-lost")) value[1] = -value[1];
   if (returned && answer[SBG_TAG] == SBG_BLANK && wrong("blank-written")) value[0] = value[1] = 0;
   if (returned && answer[SBG_A] == 14 && len < 60 && wrong("14-behind-2")) answer[SBG_A] = 2;
