@@ -42,8 +42,10 @@ static enum written read_number(const uint8_t *f, struct form form, int64_t *m, 
   const uint8_t *end = f + form.width;
   while (f < end && *f == ' ') f++;
   if (f == end) return BLANK;
-  int minus = *f == '-';
-  if (*f == '-' || *f == '+') f++;
+  int minus = *f == '-', sign = minus || *f == '+';
+  if (sign) f++;
+  if (sign && form.sort != 'I')
+    while (f < end && *f == ' ') f++;
   const uint8_t *digits = f;
   uint64_t n = 0;
   while (f < end && is_digit(*f)) n = n * 10 + (*f++ - '0');

@@ -363,12 +363,15 @@ static void field_of(const uint8_t *bytes, size_t len, uint64_t number, uint64_t
   }
 }
 
-/* A value is what C's own reading of the same text says: both are the double nearest to one decimal. */
+/* A value is what C's own reading of the same text says: both are the double nearest to one decimal. C knows no blanks
+ * behind a sign (document 02, No. 4), so that it gets the text without any. */
 static void read_again(const uint8_t *bytes, uint64_t number, const int64_t *value) {
   static const int first[] = {476, 710, 742, 934, 1886, 1906, 1926, 1946, 1966, 1986, 60, 76, 92};
   static const int width[] = {8, 16, 16, 16, 20, 20, 20, 20, 20, 20, 16, 16, 16}, places[] = {3, 7, 7, 7, 13, 13, 13, 13, 13, 13, 0, 0, 7};
   char text[21] = {0}, said[40];
-  memcpy(text, bytes + first[number - 1], (size_t)width[number - 1]);
+  size_t written = 0;
+  for (int i = 0; i < width[number - 1]; i++)
+    if (bytes[first[number - 1] + i] != ' ') text[written++] = (char)bytes[first[number - 1] + i];
   snprintf(said, sizeof said, "%llde%lld", (long long)value[0], (long long)value[1] - places[number - 1]);
   hold(strtod(text, NULL) == strtod(said, NULL), "the value is the text's");
 }
