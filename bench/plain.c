@@ -59,6 +59,38 @@ static enum written read_number(const uint8_t *f, struct form form, int64_t *m, 
   return NUMBER;
 }
 
+static inline int is_sign(uint8_t c) { return c == '-' || c == '+'; }
+
+/* Of a whole number: the byte that is no digit; a sign that ends the field is bad itself. */
+static unsigned bad_in_whole(const uint8_t *f, unsigned at, unsigned width) {
+  if (is_sign(f[at]) && at + 1 < width) at++;
+  while (at + 1 < width && is_digit(f[at])) at++;
+  return at;
+}
+
+/* Of an exponent, which stands at that place. */
+static unsigned bad_in_exponent(const uint8_t *f, unsigned at) {
+  if (f[at] != 'E') return at;
+  if (!is_sign(f[at + 1])) return at + 1;
+  return is_digit(f[at + 2]) ? at + 3 : at + 2;
+}
+
+/* Of a field that is badly written, or blank where a number is needed: the first byte that no well-written field with
+ * the same earlier bytes could have there; of a blank one the last. Good fields never come here. */
+static unsigned bad_place(const uint8_t *f, struct form form) {
+  unsigned at = 0, point = form.width - 1 - form.places - (form.sort == 'E' ? 4 : 0);
+  while (at < form.width && f[at] == ' ') at++;
+  if (at == form.width) return at - 1;
+  if (form.sort == 'I') return bad_in_whole(f, at, form.width);
+  if (at < point && is_sign(f[at]))
+    for (at++; at < point && f[at] == ' ';) at++;
+  while (at < point && is_digit(f[at])) at++;
+  if (at != point || f[at] != '.') return at;
+  for (at++; at <= point + form.places; at++)
+    if (!is_digit(f[at])) return at;
+  return bad_in_exponent(f, at);
+}
+
 /* ---- answers ---- */
 
 static inline uint64_t tell(uint64_t *answer, uint64_t tag, uint64_t a, uint64_t b, uint64_t c,
@@ -105,7 +137,7 @@ static uint64_t plain_field(const uint8_t *bytes, size_t len, uint64_t number, i
   case BLANK:
     return tell(answer, SBG_BLANK, 0, 0, 0, 0);
   default:
-    return tell(answer, SBG_REFUSED, 6, 0, at, 0);
+    return tell(answer, SBG_REFUSED, 6, 0, at + bad_place(bytes + at, form), 0);
   }
 }
 
@@ -150,7 +182,7 @@ static inline struct fault header(const uint8_t *b, uint64_t k, uint32_t codes, 
 static struct fault needed(const uint8_t *r, unsigned byte, struct form form, uint64_t least,
                            uint64_t most, uint64_t *number) {
   int64_t m, e;
-  if (read_number(r + byte - 1, form, &m, &e) != NUMBER) return fault(6, byte - 1);
+  if (read_number(r + byte - 1, form, &m, &e) != NUMBER) return fault(6, byte - 1 + bad_place(r + byte - 1, form));
   if (m < 0 || (uint64_t)m < least || (uint64_t)m > most) return fault(7, byte - 1);
   *number = (uint64_t)m;
   return FINE;

@@ -4,7 +4,7 @@
  *
  * This file finds the command that is asked for in the table (commands.def) and makes the help of it. Each
  * topic has a file of its own; walks.c is what they share of the walk, held.c has the files that are read, put.c
- * those that are written, row.c writes the rows, say.c has the words. */
+ * those that are written, row.c writes the rows, say.c has the words, and marks.c shows the field of a refusal 6. */
 #include "command.h"
 #include "held.h"
 #include "say.h"
@@ -70,7 +70,8 @@ static const char ANSWERS[] =
     "  Rows on standard output; the last one is the answer. Messages are on standard error.\n"
     "    COMPLETE 3 RECORDS 1116 BYTES  the file is whole and meets the rules\n"
     "    REFUSED 10 RECORD 3 AT 930     the first fault: its number, the record (from 1), the place (from\n"
-    "                                   0); docs/REFUSALS.md says what each number means\n"
+    "                                   0); docs/REFUSALS.md says what each number means; of a 6 the\n"
+    "                                   field is shown as a message, with a mark under its bad byte\n"
     "    WAIT 9 BYTES RECORD 3 AT 918   so many bytes are missing to the next part of that record, which\n"
     "                                   starts there; what has come so far is good\n"
     "    AGREES 4 FILES                 every file is whole, and the directory tells their record counts\n"

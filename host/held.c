@@ -14,7 +14,7 @@
 #include <unistd.h>
 
 /* A file that shrinks takes its mapped bytes away, and reading them is a signal. It can only come while
- * the library reads, which holds nothing: so the jump out of it is safe. */
+ * the library reads, or marks.c copies a field; both hold nothing: so the jump out of it is safe. */
 static sigjmp_buf taken_away;
 static const char *reading;
 

@@ -1,5 +1,6 @@
 #include "walks.h"
 
+#include "marks.h"
 #include "row.h"
 #include "say.h"
 
@@ -51,7 +52,7 @@ int closing(const struct walk *walk, bool of_set) {
               ahead("at", start));
       return WAITING;
     case SBG_REFUSED:
-      return say_refusal(of, name, walk->answer);
+      return say_file_refusal(of, &walk->file, walk->state[SBG_KIND], start, walk->answer);
     default:
       fail(name, "the library's answer is not known here");
   }

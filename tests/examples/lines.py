@@ -261,7 +261,7 @@ FIRST_FAULTS: tuple[tuple[str, int, list[Patch]], ...] = (  # due, the bytes fro
     ('5 RECORD 1 AT 8', 12, [(9, 360)]), ('5 RECORD 1 AT 8', 12, [(9, 721), (13, 'x')]),
     ('8 RECORD 1 AT 12', 720, [(13, 'B')]), ('8 RECORD 1 AT 12', 720, [(14, 'b'), (429, 'x')]),
     ('8 RECORD 1 AT 428', 720, [(432, 'b')]), ('8 RECORD 1 AT 428', 720, [(429, 'IU1 '), (181, '     x')]),
-    ('6 RECORD 1 AT 180', 720, [(181, '     x')]), ('6 RECORD 1 AT 288', 720, [(289, '    ')]),
+    ('6 RECORD 1 AT 185', 720, [(181, '     x')]), ('6 RECORD 1 AT 291', 720, [(289, '    ')]),
     ('7 RECORD 1 AT 180', 720, [(181, '     0')]), ('7 RECORD 1 AT 224', 720, [(225, '   1')]), ('7 RECORD 1 AT 232', 720, [(233, '   2')]),
     ('8 RECORD 1 AT 0', 720, [(237, '       1')]), ('8 RECORD 1 AT 0', 720, [(281, '       7')]), ('8 RECORD 1 AT 0', 720, [(289, '   1')]),
 )
@@ -390,7 +390,7 @@ def fifteen_last() -> None:
     title('15 comes last: not before the first record, 13, a wait, 3, 4, 5 or 10; line 1 is 15 in the same row')
     scene = lettered(2)
     for patches, size, line, due in (
-            ([], 719, 1, 'WAIT 1'), ([(1, 2)], 1116, 1, refused(3, 1, 0)), ([(181, '     x')], 1116, 1, refused(6, 1, 180)), ([], 1116, 0, refused(13)),
+            ([], 719, 1, 'WAIT 1'), ([(1, 2)], 1116, 1, refused(3, 1, 0)), ([(181, '     x')], 1116, 1, refused(6, 1, 185)), ([], 1116, 0, refused(13)),
             ([], 1116, 3, refused(13)), ([], 1115, 2, 'WAIT 1'), ([(919, 9)], 1116, 2, refused(3, 3, 918)), ([(923, 9)], 1116, 2, refused(4, 3, 922)),
             ([(927, 9)], 1116, 2, refused(5, 3, 926)), ([(931, 9)], 1116, 2, refused(10, 3, 930)), ([(947, 9)], 1116, 2, refused(10, 3, 938))):
         with changed(*patches):
@@ -528,17 +528,19 @@ def written_counts() -> None:
                 check(file.size, with_count(counts_of(3), pointer, count), 'AGREES')
                 for other in (count - 1, count + 1, 2 ** 64 - count, MANY):
                     check(file.size, with_count(counts_of(3), pointer, other), refused(12, 0, at - 1))
-        for text, number in (('       0', 7), ('      -7', 7), ('      -0', 7), ('        ', 6), ('      7 ', 6), ('    + 12', 6), ('     1.0', 6)):
+        # refusal, and how far behind the field's first byte: 7 is at it, 6 at the bad byte
+        for text, number, on in (('       0', 7, 0), ('      -7', 7, 0), ('      -0', 7, 0), ('        ', 6, 7), ('      7 ', 6, 7),
+                                 ('    + 12', 6, 5), ('     1.0', 6, 6)):
             with changed((at, text)):
                 for count in (0, 7 * pointer):
-                    check(file.size, with_count(counts_of(3), pointer, count), refused(number, pointer + 1, at - 1))
+                    check(file.size, with_count(counts_of(3), pointer, count), refused(number, pointer + 1, at - 1 + on))
 
 
 DIRECTORY_FAULTS: tuple[tuple[str, list[Patch]], ...] = (  # of a directory of 4 pointers: due, what is put
     ('3 RECORD 1 AT 0', [(1, 2)]), ('3 RECORD 6 AT 1800', [(1801, 5)]), ('3 RECORD 2 AT 360', [(361, 9), (721, 9), (1801, 9)]),
     ('4 RECORD 1 AT 4', [(5, 0)]), ('4 RECORD 4 AT 1084', [(1085, b'\x12')]), ('4 RECORD 6 AT 1804', [(1805, b'\xdb')]),
     ('5 RECORD 1 AT 8', [(9, 720)]), ('5 RECORD 3 AT 728', [(729, 361)]), ('5 RECORD 6 AT 1808', [(1809, 0)]),
-    ('6 RECORD 1 AT 160', [(161, '   x')]), ('6 RECORD 2 AT 468', [(469, '     7 0')]),
+    ('6 RECORD 1 AT 163', [(161, '   x')]), ('6 RECORD 2 AT 474', [(469, '     7 0')]),
     ('7 RECORD 1 AT 160', [(161, '   2')]), ('7 RECORD 1 AT 160', [(161, '   7')]), ('7 RECORD 5 AT 1548', [(1549, '     719')]),
     ('8 RECORD 1 AT 12', [(13, 'a')]), ('8 RECORD 2 AT 424', [(425, 'SART')]), ('8 RECORD 5 AT 1504', [(1505, 'IMOP')]),
     ('8 RECORD 4 AT 1144', [(161, '   3')]), ('8 RECORD 5 AT 1504', [(161, '   5')]),

@@ -14,6 +14,8 @@ LISTED = [(1, 477, 'F8.3'), (2, 711, 'F16.7'), (3, 743, 'F16.7'), (4, 935, 'F16.
           (6, 1907, 'E20.13'), (7, 1927, 'E20.13'), (8, 1947, 'E20.13'), (9, 1967, 'E20.13'),
           (10, 1987, 'E20.13'), (11, 61, 'I16'), (12, 77, 'I16'), (13, 93, 'F16.7')]
 
+SOMEWHERE = 100  # the place in the record at which a badly written field is tried
+
 commands: list[bytes] = []
 answers: list[bytes] = []
 
@@ -33,6 +35,22 @@ def decimal(form: str, text: bytes | str, answer: str) -> None:
     ask(b'd %d:' % FORMS[form][0] + raw, answer)
 
 
+def badly(form: str, text: str, bad: int) -> None:
+    """The text is badly written; as a field of a record it is refused at its bad byte, from 0 (document 02, No. 5)."""
+    code, w = FORMS[form]
+    raw = text.encode('latin-1')
+    decimal(form, raw, 'BAD')
+    commands.append(b'p %d:' % (SOMEWHERE + 1) + raw)
+    ask(b'a %d %d %d' % (SOMEWHERE, code, SOMEWHERE + w), f'REFUSED 6 RECORD 0 AT {SOMEWHERE + bad}')
+
+
+def badly_at_right(form: str, texts: dict[str, int]) -> None:
+    """Each set to the right of the field; its bad byte is counted in the text itself."""
+    w = FORMS[form][1]
+    for text, bad in texts.items():
+        badly(form, text.rjust(w), w - len(text) + bad)
+
+
 def value(m: int, e: int = 0) -> str:
     return f'VALUE {m} {e}'
 
@@ -46,15 +64,16 @@ def worked_examples() -> None:
     decimal('F16.7', '-9999999.9999999', value(-99999999999999))
     decimal('F16.7', '99999999.9999999', value(999999999999999))
     decimal('F16.7', ' ' * 16, 'BLANK')
-    decimal('F16.7', '     1.000000000', 'BAD')
+    badly('F16.7', '     1.000000000', 6)
     decimal('I6', '     0', value(0))
     decimal('E20.13', ' 1.0000000000000E+02', value(10000000000000, 2))
     title('a sign in the first column, a sign with blanks only, two signs')
     decimal('F16.7', '  -    1.0000000', value(-10000000))
     decimal('F16.7', '-       .5000000', value(-5000000))
-    decimal('F16.7', '-' + ' ' * 15, 'BAD')
-    decimal('F16.7', '-     -1.0000000', 'BAD')
-    decimal('I16', '-              1', 'BAD')
+    badly('F16.7', '-' + ' ' * 15, 8)
+    badly('F16.7', '-     -1.0000000', 6)
+    badly('I16', '-              1', 1)
+    badly('F16.7', ' ' * 15 + '1', 15)
     title('the slip of the lost minus')
     decimal('F16.7', '      -0.5000000', value(-5000000))
     decimal('F8.3', '  -0.500', value(-500))
@@ -75,11 +94,11 @@ def whole_shapes() -> None:
         decimal(form, '+' + '9' * (w - 1), value(10 ** (w - 1) - 1))
         decimal(form, '1' + '0' * (w - 1), value(10 ** (w - 1)))
         title(f'{form}: badly written')
-        for text in ['- 1', '+ 1', '--1', '+-1', '-+1', '++1', '-', '+', '1 ', '1 1', '1.', '.1', '1e1', '1,1',
-                     '\t1', '1\t', '\x001', '1\x00', '\xa01', '1\xa0', '\x801', '\xff1', '1-', '1+', ':', '/', 'A', 'é'[:1]]:
-            decimal(form, text.rjust(w).encode('latin-1'), 'BAD')
-        for text in ['1'.ljust(w), '-'.ljust(w), ' 1'.ljust(w), '\t' * w, '\x00' * w, '\xa0' * w]:
-            decimal(form, text, 'BAD')
+        badly_at_right(form, {
+            '- 1': 1, '+ 1': 1, '--1': 1, '+-1': 1, '-+1': 1, '++1': 1, '-': 0, '+': 0, '1 ': 1, '1 1': 1, '1.': 1, '.1': 0, '1e1': 1, '1,1': 1,
+            '\t1': 0, '1\t': 1, '\x001': 0, '1\x00': 1, '\xa01': 0, '1\xa0': 1, '\x801': 0, '\xff1': 0, '1-': 1, '1+': 1, ':': 0, '/': 0, 'A': 0, 'é': 0})
+        for text, bad in [('1'.ljust(w), 1), ('-'.ljust(w), 1), (' 1'.ljust(w), 2), ('\t' * w, 0), ('\x00' * w, 0), ('\xa0' * w, 0)]:
+            badly(form, text, bad)
 
 
 def point_shapes() -> None:
@@ -103,14 +122,17 @@ def point_shapes() -> None:
         decimal(form, '0' * n + '.' + '0' * (d - 1) + '1', value(1))
         decimal(form, '-' + '0' * (n - 1) + '.' + '0' * (d - 1) + '1', value(-1))
         title(f'{form}: badly written')
-        for text in [f'- -.{zeros}', f'+ -.{zeros}', f'--1.{zeros}', f'+-1.{zeros}', f'- 1 .{zeros}'[-w:], f'1 .{zeros}', f'1. {zeros[1:]}',
-                     f'1.{zeros[1:]} ', f'1.{zeros[1:]}', f'1.{zeros}0', f'1{zeros}', f'1.{zeros[1:]}.', f'1..{zeros[1:]}',
-                     f'1,{zeros}', f'1.{zeros[1:]}-', f'1-.{zeros}', f'1.-{zeros[1:]}', '.', '-.', f'-{zeros}', f'1e{zeros}',
-                     f'\t1.{zeros}', f'1.{zeros[1:]}\t', f'\x001.{zeros}', f'\xa01.{zeros}', f'1.{zeros[1:]}\xa0',
-                     f'\x801.{zeros}', f'\xff1.{zeros}', f'1\xb7{zeros}', f'1.{zeros[1:]}:', f'1.{zeros[1:]}/', f'A.{zeros}']:
-            decimal(form, text.rjust(w), 'BAD')
-        for text in [f'1.{zeros}'.ljust(w), f'.{zeros}'.ljust(w), ' ' * (w - 1) + '.', '-'.ljust(w), ' +'.ljust(w), ' ' * (w - 2) + '- ', '\x00' * w, '\xa0' * w]:
-            decimal(form, text, 'BAD')
+        last = d + 1  # of a digit, a point and d bytes
+        badly_at_right(form, {
+            f'- -.{zeros}': 2, f'+ -.{zeros}': 2, f'--1.{zeros}': 1, f'+-1.{zeros}': 1, f'- 1 .{zeros}': 3, f'1 .{zeros}': 1, f'1. {zeros[1:]}': 2,
+            f'1.{zeros[1:]} ': last, f'1.{zeros[1:]}': 0, f'1.{zeros}0': 1, f'1{zeros}': 0, f'1.{zeros[1:]}.': last, f'1..{zeros[1:]}': 2,
+            f'1,{zeros}': 1, f'1.{zeros[1:]}-': last, f'1-.{zeros}': 1, f'1.-{zeros[1:]}': 2, '.': 0, '-.': 0, f'-{zeros}': 0, f'1e{zeros}': 1,
+            f'\t1.{zeros}': 0, f'1.{zeros[1:]}\t': last, f'\x001.{zeros}': 0, f'\xa01.{zeros}': 0, f'1.{zeros[1:]}\xa0': last,
+            f'\x801.{zeros}': 0, f'\xff1.{zeros}': 0, f'1\xb7{zeros}': 1, f'1.{zeros[1:]}:': last, f'1.{zeros[1:]}/': last, f'A.{zeros}': 0})
+        # blanks behind a sign are good up to the point's column, which is n
+        for text, bad in [(f'1.{zeros}'.ljust(w), 1), (f'.{zeros}'.ljust(w), 0), (' ' * (w - 1) + '.', w - 1), ('-'.ljust(w), n), (' +'.ljust(w), n),
+                          (' ' * (w - 2) + '- ', w - 2), ('\x00' * w, 0), ('\xa0' * w, 0)]:
+            badly(form, text, bad)
 
 
 def exponent_shapes() -> None:
@@ -128,13 +150,14 @@ def exponent_shapes() -> None:
     decimal(form, f'+9.{nines}E+99', value(10 ** 14 - 1, 99))
     decimal(form, f'00.{z[1:]}1E-99', value(1, -99))
     title('E20.13: badly written')
-    for text in [f'1.{z}e+02', f'1.{z}D+02', f'1.{z} +02', f'1.{z}E02', f'1.{z}E 02', f'1.{z}E+2', f'1.{z}E+2 ', f'1.{z}E+ 2',
-                 f'1.{z}E++2', f'1.{z}E+0A', f'1.{z}E+\t2', f'1.{z}E+002', f'1.{z[1:]}E+02', f'1.{z}0E+02', f'1{z}0E+02',
-                 f'1.{z}', f'1.{z}E+', f'- -.{z[1:]}E+02', f'--.{z}E+02', f'- .{z}E- 2', f'1 .{z}E+02', f'1.{z[1:]} E+02', f'\x001.{z}E+02',
-                 f'\xa01.{z}E+02', f'1.{z}\xc5+02', f'1.{z}E\xab02', f'1.{z}E+0\xb2', 'E+02', '.E+02', f'1.{z}+E02']:
-        decimal(form, text.rjust(w), 'BAD')
-    for text in [f'1.{z}E+02'.ljust(w), '\x00' * w, '\xa0' * w, '\t' * w]:
-        decimal(form, text, 'BAD')
+    # the point's column is the third: a text too short or too long is bad at its first digit, or at its point
+    badly_at_right(form, {
+        f'1.{z}e+02': 15, f'1.{z}D+02': 15, f'1.{z} +02': 15, f'1.{z}E02': 0, f'1.{z}E 02': 16, f'1.{z}E+2': 0, f'1.{z}E+2 ': 18, f'1.{z}E+ 2': 17,
+        f'1.{z}E++2': 17, f'1.{z}E+0A': 18, f'1.{z}E+\t2': 17, f'1.{z}E+002': 1, f'1.{z[1:]}E+02': 0, f'1.{z}0E+02': 1, f'1{z}0E+02': 1,
+        f'1.{z}': 0, f'1.{z}E+': 0, f'- -.{z[1:]}E+02': 2, f'--.{z}E+02': 1, f'- .{z}E- 2': 18, f'1 .{z}E+02': 1, f'1.{z[1:]} E+02': 14,
+        f'\x001.{z}E+02': 0, f'\xa01.{z}E+02': 0, f'1.{z}\xc5+02': 15, f'1.{z}E\xab02': 16, f'1.{z}E+0\xb2': 18, 'E+02': 0, '.E+02': 0, f'1.{z}+E02': 15})
+    for text, bad in [(f'1.{z}E+02'.ljust(w), 1), ('-'.ljust(w), 2), ('\x00' * w, 0), ('\xa0' * w, 0), ('\t' * w, 0)]:
+        badly(form, text, bad)
 
 
 def other_widths() -> None:
@@ -172,20 +195,24 @@ def listed_fields() -> None:
         ask(b'f %d %d' % (k, end), value(m, e))
         ask(b'f %d %d' % (k, end - 1), 'REFUSED 2 RECORD 0 AT 0')
         ask(b'f %d 0' % k, 'REFUSED 2 RECORD 0 AT 0')
-    title('blank, and badly written: 6 at the first byte, from 0')
+    title('blank, and badly written: 6 at the bad byte, from 0')
     commands.append(b'c 32')
     for k, _, _ in LISTED:
         ask(b'f %d 4096' % k, 'BLANK')
     for k, first, form in LISTED:
         commands.append(b'c 32')
-        commands.append(b'b %d %d' % (first + FORMS[form][1] - 1, 0xA0))
-        ask(b'f %d 4096' % k, f'REFUSED 6 RECORD 0 AT {first - 1}')
+        last = first + FORMS[form][1] - 1
+        commands.append(b'b %d %d' % (last, 0xA0))
+        ask(b'f %d 4096' % k, f'REFUSED 6 RECORD 0 AT {last - 1}')
         commands.append(b'c 0')
         ask(b'f %d 4096' % k, f'REFUSED 6 RECORD 0 AT {first - 1}')
         commands.append(b'c 32')
         commands.append(b'b %d 48' % (first - 1))
         commands.append(b'b %d 48' % (first + FORMS[form][1]))
         ask(b'f %d 4096' % k, 'BLANK')
+    title('P8 as listed field 2: its point, in the column before the one where it belongs')
+    commands.append(b'p 711:     1.000000000')
+    ask(b'f 2 4096', 'REFUSED 6 RECORD 0 AT 716')
     title('no such listed field: 14, before 2')
     for k in (0, 14, 15, 255, 2 ** 32 + 1, 2 ** 64 - 1):
         for length in (0, 1, 4096):

@@ -304,8 +304,8 @@ def refusals_of_volumes() -> None:
         ('4 RECORD 1 AT 4', 0, 0, 0, [(8, b'\x14')]), ('4 RECORD 3 AT 724', 2, 0, 1, [(726, b'\xc1')]),
         ('4 RECORD 5 AT 1444', 4, 0, 1, [(1445, b'\xdb')]), ('5 RECORD 1 AT 8', 0, 0, 1, [(9, 720)]),
         ('5 RECORD 4 AT 1088', 3, 0, 0, [(1089, 361)]), ('5 RECORD 5 AT 1448', 4, 0, 1, [(1449, 359)]),
-        ('6 RECORD 1 AT 160', 0, 0, 1, [(161, '    ')]), ('6 RECORD 2 AT 460', 1, 0, 0, [(461, '       x')]),
-        ('6 RECORD 4 AT 1188', 3, 0, 1, [(1189, '    720 ')]), ('7 RECORD 1 AT 160', 0, 0, 0, [(161, '  -3')]),
+        ('6 RECORD 1 AT 163', 0, 0, 1, [(161, '    ')]), ('6 RECORD 2 AT 467', 1, 0, 0, [(461, '       x')]),
+        ('6 RECORD 4 AT 1195', 3, 0, 1, [(1189, '    720 ')]), ('7 RECORD 1 AT 160', 0, 0, 0, [(161, '  -3')]),
         ('7 RECORD 2 AT 468', 1, 0, 1, [(469, '     719')]), ('7 RECORD 3 AT 820', 2, 0, 1, [(821, '       0')]),
         ('8 RECORD 1 AT 12', 0, 0, 1, [(13, 'a ')]), ('8 RECORD 2 AT 424', 1, 0, 0, [(425, 'SART')]),
         ('8 RECORD 3 AT 784', 2, 0, 1, [(785, 'SARL')]), ('8 RECORD 4 AT 1144', 3, 0, 1, [(1145, 'IMOP')]),
@@ -324,9 +324,9 @@ def refusals_of_leaders() -> None:
         ('3 RECORD 1 AT 0', 0, 0, 1, [(1, 0)]), ('3 RECORD 2 AT 720', 1, 732, 0, [(721, 1)]),
         ('4 RECORD 1 AT 4', 0, 0, 1, [(5, b'\x0b'), (6, b'\xc8')]), ('4 RECORD 2 AT 724', 1, 0, 0, [(726, b'\x14')]),
         ('5 RECORD 1 AT 8', 0, 0, 0, [(9, 360)]), ('5 RECORD 2 AT 728', 1, 0, 1, [(729, 4097)]),
-        ('6 RECORD 1 AT 180', 0, 0, 1, [(181, '    1 ')]), ('6 RECORD 1 AT 186', 0, 0, 1, [(187, '      ')]),
-        ('6 RECORD 1 AT 560', 0, 0, 0, [(561, '- 0   ')]), ('6 RECORD 2 AT 1196', 1, 0, 1, [(1197, 'x')]),
-        ('6 RECORD 2 AT 2706', 1, 0, 0, [(2726, '1')]), ('7 RECORD 1 AT 180', 0, 0, 1, [(181, '      ')]),
+        ('6 RECORD 1 AT 185', 0, 0, 1, [(181, '    1 ')]), ('6 RECORD 1 AT 191', 0, 0, 1, [(187, '      ')]),
+        ('6 RECORD 1 AT 561', 0, 0, 0, [(561, '- 0   ')]), ('6 RECORD 2 AT 1196', 1, 0, 1, [(1197, 'x')]),
+        ('6 RECORD 2 AT 2725', 1, 0, 0, [(2726, '1')]), ('7 RECORD 1 AT 180', 0, 0, 1, [(181, '      ')]),
         ('7 RECORD 1 AT 192', 0, 0, 0, [(193, '     2')]), ('7 RECORD 1 AT 186', 0, 0, 1, [(187, '  4095')]),
         ('7 RECORD 1 AT 348', 0, 0, 1, [(349, '     1')]), ('8 RECORD 1 AT 12', 0, 0, 1, [(13, ' A')]),
         ('9 RECORD 3 AT 4816', 2, 4817, 1, []), ('9 RECORD 3 AT 4816', 2, 4828, 0, [(4817, 3)]),
@@ -343,7 +343,7 @@ def refusals_of_images() -> None:
         ('4 RECORD 1 AT 4', 0, 0, 1, [(6, b'\x0b')]), ('4 RECORD 2 AT 724', 1, 0, 0, [(728, b'\x12')]),
         ('4 RECORD 3 AT 922', 2, 0, 1, [(923, b'3')]), ('5 RECORD 1 AT 8', 0, 0, 0, [(9, 198)]),
         ('5 RECORD 2 AT 728', 1, 0, 0, [(729, 197)]), ('5 RECORD 3 AT 926', 2, 0, 1, [(927, 720)]),
-        ('6 RECORD 1 AT 186', 0, 0, 1, [(187, '19 8  ')]), ('6 RECORD 1 AT 288', 0, 0, 0, [(289, '    ')]),
+        ('6 RECORD 1 AT 188', 0, 0, 1, [(187, '19 8  ')]), ('6 RECORD 1 AT 291', 0, 0, 0, [(289, '    ')]),
         ('7 RECORD 1 AT 224', 0, 0, 1, [(225, '   1')]), ('7 RECORD 1 AT 232', 0, 0, 0, [(233, '   2')]),
         ('8 RECORD 1 AT 12', 0, 0, 1, [(14, 'b')]), ('8 RECORD 1 AT 428', 0, 0, 0, [(429, 'IS2 ')]), ('8 RECORD 1 AT 0', 0, 0, 1, [(281, '       7')]),
         ('9 RECORD 4 AT 1116', 3, 1128, 1, [(1117, 4)]), ('9 RECORD 4 AT 1116', 3, 1314, 0, []),
@@ -704,13 +704,18 @@ def other_kinds() -> None:
 
 # Volumes -----------------------------------------------------------------------------------------------
 
-# texts of a number that are badly written; they are set to the right of the field
-BADLY = ('x', '- 1', '1 ')
+# texts of a number that are badly written, and which byte of each is the bad one; they are set to the right of the field
+BADLY = {'x': 0, '- 1': 1, '1 ': 1}
 
 
-def badly(width: int) -> list[str]:
-    """A few for every field; numbers.py has the rest."""
-    return [text.rjust(width) for text in BADLY] + ['\0' * width]
+def badly(width: int) -> list[tuple[str, int]]:
+    """A few for every field, each with its bad byte, from 0 (document 02, No. 5); numbers.py has the rest."""
+    return [(text.rjust(width), width - len(text) + bad) for text, bad in BADLY.items()] + [('\0' * width, 0)]
+
+
+def blank(width: int) -> tuple[str, int]:
+    """Where a number is needed, the last of the blanks is the bad byte."""
+    return ' ' * width, width - 1
 
 
 def volumes() -> None:
@@ -734,8 +739,8 @@ def volumes() -> None:
         fits(file, 1, (161, text), plan={POINTERS: pointers})
     for text in ('   2', '   7', '  -0', '0000', '  -3', '9999'):
         broken(file, 1, (7, 161), (161, text))
-    for text in badly(4) + ['    ', '3   ']:
-        broken(file, 1, (6, 161), (161, text))
+    for text, bad in [*badly(4), blank(4), ('3   ', 1)]:
+        broken(file, 1, (6, 161 + bad), (161, text))
     first_texts(file)
 
 
@@ -769,14 +774,14 @@ def pointer_numbers() -> None:
             fits(file, record, (101, text))
         for text in ('       0', '      -0', '      -1'):
             broken(file, record, (7, 101), (101, text))
-        for text in badly(8) + [' ' * 8]:
-            broken(file, record, (6, 101), (101, text))
+        for text, bad in [*badly(8), blank(8)]:
+            broken(file, record, (6, 101 + bad), (101, text))
         for text in ('    +720', '00000720'):
             fits(file, record, (109, text))
         for text in ('     719', '     721', '    -720'):
             broken(file, record, (7, 109), (109, text))
-        for text in ('        ', '    720 ', '   + 720'):
-            broken(file, record, (6, 109), (109, text))
+        for text, bad in (blank(8), ('    720 ', 7), ('   + 720', 4)):
+            broken(file, record, (6, 109 + bad), (109, text))
 
 
 # Leaders -----------------------------------------------------------------------------------------------
@@ -804,14 +809,14 @@ def admitted_slots() -> None:
             fits(file, 1, (byte, f'{text}{short:6}'), plan={index: count, index + 1: short})
         for count in (most + 1, -1, 999999):
             broken(file, 1, (7, byte), (byte, f'{count:6}{short:6}'))
-        for text in badly(6):
-            broken(file, 1, (6, byte), (byte, f'{text}{short:6}'))
+        for text, bad in badly(6):
+            broken(file, 1, (6, byte + bad), (byte, f'{text}{short:6}'))
         for text, length in ((f'{short:6}', short), (f'{long:06}', long)):
             fits(file, 1, (byte, '     1' + text), plan={index: 1, index + 1: length})
         for length in [short - 1, -short] + ([long + 1] if long < 999999 else []):
             broken(file, 1, (7, byte + 6), (byte, f'     1{length:6}'))
-        for text in (' ' * 6, f'{short} '.rjust(6)):
-            broken(file, 1, (6, byte + 6), (byte, '     1' + text))
+        for text, bad in (blank(6), (f'{short} '.rjust(6), 5)):
+            broken(file, 1, (6, byte + 6 + bad), (byte, '     1' + text))
 
 
 def empty_slots() -> None:
@@ -823,8 +828,8 @@ def empty_slots() -> None:
             fits(file, 1, (byte, text + UNREAD[slot % 5]))
         for count in (1, -1):
             broken(file, 1, (7, byte), (byte, f'{count:6}    12'))
-        for text in ('0     ', '   - 0'):
-            broken(file, 1, (6, byte), (byte, text))
+        for text, bad in (('0     ', 1), ('   - 0', 4)):
+            broken(file, 1, (6, byte + bad), (byte, text))
     first_texts(file)
 
 
@@ -839,12 +844,12 @@ def facility_pairs() -> None:
         fits(file, 1, (byte, f'     1{length:8}'), plan={index: 1, index + 1: length})
         for count in (2, -1)[:1 + pair % 2]:
             broken(file, 1, (7, byte), (byte, f'{count:6}      12'))
-        for text in by_turns_of(('    1 ', '     +', '   1.0', '\0\0\0\0\0\1'), pair, 4):
-            broken(file, 1, (6, byte), (byte, f'{text}      12'))
+        text, bad = (('    1 ', 5), ('     +', 5), ('   1.0', 4), ('\0\0\0\0\0\1', 0))[-pair % 4]
+        broken(file, 1, (6, byte + bad), (byte, f'{text}      12'))
         for length in (11, -12)[:2 - pair % 2]:
             broken(file, 1, (7, byte + 6), (byte, f'     1{length:8}'))
-        for text in (' ' * 8, '     1 2'):
-            broken(file, 1, (6, byte + 6), (byte, '     1' + text))
+        for text, bad in (blank(8), ('     1 2', 6)):
+            broken(file, 1, (6, byte + 6 + bad), (byte, '     1' + text))
 
 
 def leader_files() -> None:
@@ -899,9 +904,10 @@ def listed_in_slots() -> None:
         fits(file, record, *beside)
         fits(file, record, *[(byte, text) for byte, _, text in fields], *beside)
         for byte, width, text in fields:
-            broken(file, record, (6, byte), (byte, '1'))
-            broken(file, record, (6, byte), (byte + width - 1, b'\xa0'))
-            broken(file, record, (6, byte), (byte, text[1:] + ' '))
+            point = text.find('.')  # moved to the left, the point is the bad byte; without one, the blank behind the digits
+            broken(file, record, (6, byte + 1), (byte, '1'))
+            broken(file, record, (6, byte + width - 1), (byte + width - 1, b'\xa0'))
+            broken(file, record, (6, byte + (point if point >= 0 else width) - 1), (byte, text[1:] + ' '))
     title('of two badly written fields the first by position')
     for record, fields in ((2, SUMMARY), (3, MAP)):
         for (byte, _, _), (later, _, _) in zip(fields, fields[1:]):
@@ -929,8 +935,8 @@ def image_fields() -> None:
                 broken(file, 1, (7, byte), (byte, str(number_there).rjust(width)))
         if least:
             broken(file, 1, (7, byte), (byte, '-0'.rjust(width)))
-        for text in badly(width) + [' ' * width]:
-            broken(file, 1, (6, byte), (byte, text))
+        for text, bad in [*badly(width), blank(width)]:
+            broken(file, 1, (6, byte + bad), (byte, text))
         for end in (least, most):
             if end != value and not (byte == 187 and end == most):
                 broken(file, 1, (8, 1), (byte, f'{end:{width}}'))
@@ -1135,32 +1141,32 @@ def orders_of_bodies() -> None:
     broken(file, 1, (8, 13), (13, 'x'), (161, '    '))
     broken(file, 1, (8, 13), (13, 'x'), (161, '   2'))
     broken(file, 2, (8, 65), (65, 'IMOP'), (101, '       x'))
-    broken(file, 3, (6, 101), (101, '       x     719'))
+    broken(file, 3, (6, 108), (101, '       x     719'))
     broken(file, 3, (7, 101), (101, '       0       x'))
-    broken(file, 4, (6, 101), (101, '               x'))
+    broken(file, 4, (6, 108), (101, '               x'))
     broken(file, 4, (7, 101), (101, '       0     719'))
     title('leader: slot before slot, count before length, slots before facilities')
     file = leader({}, {})
     broken(file, 1, (8, 13), (13, 'x'), (181, '     x'))
     broken(file, 1, (7, 181), (181, '     2     x'))
-    broken(file, 1, (6, 181), (181, '     x  4095'))
+    broken(file, 1, (6, 186), (181, '     x  4095'))
     broken(file, 1, (7, 181), (181, '      GARBAG'))
     for slot in range(1, 15):
         after = slot + 1
         if slot % 2:
             broken(file, 1, (7, slot_byte(slot)), (slot_byte(slot), '    77'), (slot_byte(after), '     x'))
         else:
-            broken(file, 1, (6, slot_byte(slot)), (slot_byte(slot), '     x'), (slot_byte(after), '    77'))
+            broken(file, 1, (6, slot_byte(slot) + 5), (slot_byte(slot), '     x'), (slot_byte(after), '    77'))
         if slot in SLOT:
             broken(file, 1, (7, slot_byte(slot) + 6), (slot_byte(slot), '     1    11'), (slot_byte(after), '     x'))
-            broken(file, 1, (6, slot_byte(slot) + 6), (slot_byte(slot), '     1     x'), (slot_byte(after), '    77'))
+            broken(file, 1, (6, slot_byte(slot) + 11), (slot_byte(slot), '     1     x'), (slot_byte(after), '    77'))
     broken(file, 1, (7, slot_byte(15)), (slot_byte(15), '     1'), (421, '     x'))
-    broken(file, 1, (6, slot_byte(15)), (slot_byte(15), '     x'), (421, '     2'))
+    broken(file, 1, (6, slot_byte(15) + 5), (slot_byte(15), '     x'), (421, '     2'))
     for pair in range(1, 11):
         at, after = facility_byte(pair), facility_byte(pair + 1)
         broken(file, 1, (7, at), (at, '     2       x'))
         if pair % 2:
-            broken(file, 1, (6, at + 6), (at, '     1       x'), (after, '     2'))
+            broken(file, 1, (6, at + 13), (at, '     1       x'), (after, '     2'))
         else:
             broken(file, 1, (7, at + 6), (at, '     1      11'), (after, '     x'))
 
@@ -1176,16 +1182,16 @@ def orders_of_images() -> None:
         broken(file, 1, (8, 429), (431, '1'), (byte, str(least - 1).rjust(width)))
     title('image: form of one before range of the next, range of one before form of the next')
     for (byte, width, least, _, _), (after, wide, low, _, _) in zip(NUMBERS, NUMBERS[1:]):
-        broken(file, 1, (6, byte), (byte, 'x'.rjust(width)), (after, str(low - 1).rjust(wide)))
+        broken(file, 1, (6, byte + width - 1), (byte, 'x'.rjust(width)), (after, str(low - 1).rjust(wide)))
         broken(file, 1, (7, byte), (byte, str(least - 1).rjust(width)), (after, 'x'.rjust(wide)))
-        broken(file, 1, (6, byte), (byte, ' ' * width), (after, 'x'.rjust(wide)))
+        broken(file, 1, (6, byte + width - 1), (byte, ' ' * width), (after, 'x'.rjust(wide)))
         broken(file, 1, (7, byte), (byte, str(least - 1).rjust(width)), (after, str(low - 1).rjust(wide)))
     title('image: every number before the agreements')
-    broken(file, 1, (6, 289), (237, '       1'), (289, '   x'))
+    broken(file, 1, (6, 292), (237, '       1'), (289, '   x'))
     broken(file, 1, (7, 225), (237, '       1'), (225, '   3'))
     broken(file, 1, (7, 289), (281, '       5  -1'))
     broken(file, 1, (7, 281), (187, '   100'), (281, '       0'))
-    broken(file, 1, (6, 249), (187, '   197'), (249, '       .'))
+    broken(file, 1, (6, 256), (187, '   197'), (249, '       .'))
 
 
 def orders_of_records() -> None:

@@ -9,7 +9,7 @@ from __future__ import annotations
 
 import random
 from dataclasses import dataclass, field
-from typing import Iterator, Optional, Sequence, Union
+from typing import Iterator, NamedTuple, Optional, Sequence, Union
 
 from reader import (
     BLANK,
@@ -103,47 +103,70 @@ def spell_listed(rng: random.Random, form: str) -> tuple[bytes, Answer]:
     return spell_point(rng, form)
 
 
-_BAD_WHOLE = (b"1 ", b"-", b"+", b"- 1", b"+ 0", b"+-1", b"1-", b"1+1", b".", b"1.", b"1.0", b"1E2", b"0x1", b"1 1")
-_BAD_WHOLE += (b"\t1", b"\x001", b"1\x00", b"1\n", b"\xb11", b"A1", b"1,0", b"1_0", b"\xff")
+class Badly(NamedTuple):
+    """A badly written text, and which of its bytes is the bad one, from 0 (document 02, No. 5): by hand, not by the reader."""
+
+    text: bytes
+    bad: int
+
+    def right(self, width: int) -> Badly:
+        """At the right of a field of that width: blanks ahead of it go before anything."""
+        return Badly(self.text.rjust(width), width - len(self.text) + self.bad)
 
 
-def _bad_points(form: str) -> Iterator[bytes]:
+# A sign that ends an I field is bad itself: a digit must follow it.
+_BAD_WHOLE = {b"1 ": 1, b"-": 0, b"+": 0, b"- 1": 1, b"+ 0": 1, b"+-1": 1, b"1-": 1, b"1+1": 1, b".": 0, b"1.": 1, b"1.0": 1}
+_BAD_WHOLE |= {b"1E2": 1, b"0x1": 1, b"1 1": 1, b"\t1": 0, b"\x001": 0, b"1\x00": 1, b"1\n": 1, b"\xb11": 0, b"A1": 0}
+_BAD_WHOLE |= {b"1,0": 1, b"1_0": 1, b"\xff": 0}
+
+
+def _bad_points(form: str) -> Iterator[Badly]:
+    """At the field's right, so that a point is in its column where exactly so many bytes follow it."""
     places = PLACES[form]
     tail = b"E+00" if form[0] == "E" else b""
     good = b"1." + b"5" * places
-    for mantissa in (
-        b"1" * (1 + places),  # no point
-        b"1." + b"5" * (places - 1),  # too few places
-        b"1." + b"5" * (places + 1),  # too many (P8)
-        b"." + b"5" * (places + 1),
-        b"." + b"5" * (places - 1),
-        b"1" + b"." + b"5" * (places - 1) + b".",  # two points
-        b"- -." + b"5" * places,  # two signs, with a blank between
-        b"- 1 ." + b"5" * places,  # blanks stand behind the sign, not behind a digit
-        b"--." + b"5" * places,
-        b"1 ." + b"5" * places,
-        b"1," + b"5" * places,
-        b"1." + b"5" * (places - 1) + b" ",
-        b"\t." + b"5" * places,
-        b"\x00." + b"5" * places,
-        b"1." + b"5" * (places - 1) + b"x",
-        b".",
-        b"-",
+    for mantissa, bad in (
+        (b"1" * (1 + places), 0),  # no point
+        (b"1." + b"5" * (places - 1), 0),  # too few places: the digit stands in the point's column
+        (b"1." + b"5" * (places + 1), 1),  # too many (P8)
+        (b"." + b"5" * (places + 1), 0),
+        (b"." + b"5" * (places - 1), 0),  # blanks up to there may be a blank field
+        (b"1" + b"." + b"5" * (places - 1) + b".", 1 + places),  # two points
+        (b"- -." + b"5" * places, 2),  # two signs, with a blank between
+        (b"- 1 ." + b"5" * places, 3),  # blanks stand behind the sign, not behind a digit
+        (b"--." + b"5" * places, 1),
+        (b"1 ." + b"5" * places, 1),
+        (b"1," + b"5" * places, 1),
+        (b"1." + b"5" * (places - 1) + b" ", 1 + places),
+        (b"\t." + b"5" * places, 0),
+        (b"\x00." + b"5" * places, 0),
+        (b"1." + b"5" * (places - 1) + b"x", 1 + places),
+        (b".", 0),
+        (b"-", 0),
     ):
-        yield mantissa + tail
+        yield Badly(mantissa + tail, bad)
     if form[0] == "E":
-        tails = (b"e+00", b"E 00", b"E000", b"E+0 ", b"E+ 0", b"D+00", b"E+0x", b"E+0", b"E*00", b" +00", b"E+00 ", b"    ", b"")
-        yield from (good + bad_tail for bad_tail in tails)
+        # behind 15 good bytes; but a tail too short or too long moves the point out of its column
+        tails = {b"e+00": 15, b"E 00": 16, b"E000": 16, b"E+0 ": 18, b"E+ 0": 17, b"D+00": 15, b"E+0x": 18, b"E+0": 0, b"E*00": 16}
+        tails |= {b" +00": 15, b"E+00 ": 1, b"    ": 15, b"": 0}
+        yield from (Badly(good + bad_tail, bad) for bad_tail, bad in tails.items())
+
+
+def badly_written(form: str) -> list[Badly]:
+    """Badly written texts of the form's width, none of them blank, each with the place of its bad byte."""
+    width, places = WIDTH[form], PLACES.get(form)
+    texts = [Badly(*one) for one in _BAD_WHOLE.items()] if places is None else list(_bad_points(form))
+    padded = [one.right(width) for one in texts if len(one.text) <= width]
+    point = {"F": -1, "E": -5}.get(form[0], 0) + width - (places or 0)  # the point's column
+    for sign in (b"-", b"+", b" -"):  # a sign with blanks only: those behind an I field's sign are bad at once
+        padded.append(Badly(sign.ljust(width), len(sign) if places is None else point))
+    padded.append(Badly(b"1" * (width - 1) + b" ", width - 1 if places is None else point))
+    padded += [Badly(b"\x00" * width, 0), Badly(b"\xff" * width, 0), Badly(b" " * (width - 1) + b"\t", width - 1)]
+    return padded
 
 
 def bad_texts(form: str) -> list[bytes]:
-    """Badly written texts of the form's width, none of them blank."""
-    width = WIDTH[form]
-    texts = _BAD_WHOLE if form[0] == "I" else tuple(_bad_points(form))
-    padded = [text.rjust(width) for text in texts if len(text) <= width]
-    padded += [sign.ljust(width) for sign in (b"-", b"+", b" -")]  # a sign with blanks only
-    padded += [b"1" * (width - 1) + b" ", b"\x00" * width, b"\xff" * width, b" " * (width - 1) + b"\t"]
-    return padded
+    return [one.text for one in badly_written(form)]
 
 
 # --------------------------------------------------------------------------
@@ -600,13 +623,12 @@ def _text_breaks(rng: random.Random, made: Made, part: Part) -> Iterator[Break]:
 
 def _number_breaks(rng: random.Random, part: Part) -> Iterator[Break]:
     rank = (part.record, BODY, NUMBERS, part.place)
-    badly, outside = ("refused", 6, part.record, part.place), ("refused", 7, part.record, part.place)
-    texts = bad_texts(part.form)
-    for text in rng.sample(texts, 3):
-        yield Break(f"badly written {text!r}", rank, badly, part.place, text)
+    outside = ("refused", 7, part.record, part.place)
+    for text, bad in rng.sample(badly_written(part.form), 3):
+        yield Break(f"badly written {text!r}", rank, ("refused", 6, part.record, part.place + bad), part.place, text)
     blank = b" " * part.width
     if not part.blank_is_zero:
-        yield Break("blank", rank, badly, part.place, blank)
+        yield Break("blank", rank, ("refused", 6, part.record, part.place + part.width - 1), part.place, blank)
     elif part.low > 0:
         yield Break("blank, so 0", rank, outside, part.place, blank)
     for value in (part.low - 1, part.high + 1, -part.high - 1, 10**part.width - 1, 0, -1):
@@ -615,9 +637,9 @@ def _number_breaks(rng: random.Random, part: Part) -> Iterator[Break]:
 
 
 def _listed_breaks(rng: random.Random, part: Part) -> Iterator[Break]:
-    rank, refusal = (part.record, BODY, NUMBERS, part.place), ("refused", 6, part.record, part.place)
-    for text in rng.sample(bad_texts(part.form), 4):
-        yield Break(f"listed {text!r}", rank, refusal, part.place, text)
+    rank = (part.record, BODY, NUMBERS, part.place)
+    for text, bad in rng.sample(badly_written(part.form), 4):
+        yield Break(f"listed {text!r}", rank, ("refused", 6, part.record, part.place + bad), part.place, text)
 
 
 def _line_breaks(rng: random.Random, made: Made, part: Part) -> Iterator[Break]:

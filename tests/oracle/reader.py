@@ -86,6 +86,47 @@ def decimal(form: str, text: bytes) -> Answer:
     return ("value", units, int(match["exponent"] or b"0"))
 
 
+# The place of a 6 (document 02, No. 5): "the place of the first byte that no well-written field with the same earlier
+# bytes could have there".  Nothing is scanned: a field's first bytes begin a well-written one if they can be completed,
+# and it is enough to try two completions.  For what is written behind the first bytes of a number may be digits as far
+# as the form lets them go, with the form's own point and exponent; only blanks that reach past the point cannot become
+# a number any more, and they may be a blank field.
+_FULL: dict[str, bytes] = {
+    "I4": b"5" * 4,
+    "I6": b"5" * 6,
+    "I8": b"5" * 8,
+    "I16": b"5" * 16,
+    "F8.3": b"5555.555",
+    "F16.7": b"55555555.5555555",
+    "E20.13": b"55.5555555555555E-55",
+}
+
+
+def begins(form: str, first: bytes) -> bool:
+    """Some well-written field of the form, or the blank one, has these first bytes."""
+    completed = (first + full[len(first) :] for full in (_FULL[form], b" " * width_of(form)))
+    return any(decimal(form, text) != BAD for text in completed)
+
+
+# The grammar knows digits, signs, blank, point and `E`, and no other byte.
+_LETTER = bytes(
+    byte if byte in b" .E" else ord("5") if byte in b"0123456789" else ord("-") if byte in b"+-" else ord("x")
+    for byte in range(256)
+)
+
+
+@functools.lru_cache(maxsize=1 << 16)
+def _first_bad(form: str, letters: bytes) -> int:
+    return next(i for i in range(len(letters)) if not begins(form, letters[: i + 1]))
+
+
+def bad_place(form: str, text: bytes) -> int:
+    """The place in a field that is badly written, or blank where a number is needed: there its last byte."""
+    if text == b" " * width_of(form):
+        return len(text) - 1
+    return _first_bad(form, bytes(text).translate(_LETTER))
+
+
 # --------------------------------------------------------------------------
 # Listed fields
 # --------------------------------------------------------------------------
@@ -111,12 +152,12 @@ def refused(number: int, record: int = 0, place: int = 0) -> Answer:
 
 
 def field_at(data: bytes, place: int, form: str) -> Answer:
-    """The field reader at a place: 2 at place 0 when the bytes end first, then 6 at the field."""
+    """The field reader at a place: 2 at place 0 when the bytes end first, then 6 at the bad byte."""
     end = place + width_of(form)
     if len(data) < end:
         return refused(2)
     answer = decimal(form, data[place:end])
-    return refused(6, 0, place) if answer == BAD else answer
+    return refused(6, 0, place + bad_place(form, data[place:end])) if answer == BAD else answer
 
 
 def field(data: bytes, number: int) -> Answer:
@@ -343,13 +384,14 @@ def _text(record: bytes, byte: int, due: bytes) -> None:
 
 
 def _number(record: bytes, byte: int, form: str, limits: Pair, blank: Optional[int] = None) -> int:
-    """A number field: form (6; blank where a number is needed is 6 too), then range (7)."""
+    """A number field: form (6 at the bad byte; blank where a number is needed is 6 too), then range (7)."""
     place = byte - 1
-    answer = decimal(form, record[place : place + width_of(form)])
+    text = record[place : place + width_of(form)]
+    answer = decimal(form, text)
     if answer == BLANK and blank is not None:
         number = blank
     elif answer[0] != "value":
-        raise Refuse(6, place)
+        raise Refuse(6, place + bad_place(form, text))
     else:
         number = answer[1]
     if not _within(number, limits):

@@ -11,7 +11,7 @@ import itertools
 import random
 import sys
 import time
-from typing import Callable, Iterator
+from typing import Callable, Iterable, Iterator
 
 import cards
 import reader
@@ -22,7 +22,7 @@ from binary32 import INFINITY, SIGN, Exact, finite, power_of_two, rounded, worth
 from cards import Card, card_answer, card_numbers, is_card
 from reader import (
     COMPLEX, COUNTS, D, EVERY_RECORD, FACILITIES, IMAGE, KIND, L, LEADER, N, PASSED, POINTERS, S, SLOTS, SORT, STATE_NUMBERS,
-    TRAILER, VOLUME, W, Answer, State, accepted, begin, decimal, field, field_at, good_state, line_view, listing, planned,
+    TRAILER, VOLUME, W, Answer, State, accepted, bad_place, begin, decimal, field, field_at, good_state, line_view, listing, planned,
     refused, row_copy, set_check, start, walk,
 )
 from samples import complex_row, power, power_of, sample
@@ -102,7 +102,7 @@ def proved_examples(tally: Tally, rng: random.Random) -> None:
         ("P10", "E20.13", "b1.0000000000000E+02", ("value", 10000000000000, 2)),
     ):
         tally.equal(decimal(form, b(text)), want, name)
-    tally.equal(field(b"?" * 710 + b("bbbbb1.000000000"), 2), refused(6, 0, 710), "P8 as listed field 2")
+    tally.equal(field(b"?" * 710 + b("bbbbb1.000000000"), 2), refused(6, 0, 716), "P8 as listed field 2: its point")
     image = listed_image(rng)
     tally.equal(whole_walk(IMAGE, patched(image.data, 181, b"     0")), (fresh(IMAGE), 0, refused(7, 1, 180)), "P9 as n")
     for zero in (b"    -0", b"    +0", b"000000"):
@@ -223,6 +223,86 @@ def decimals(tally: Tally, rng: random.Random) -> None:
         tally.equal(decimal("E20.13", b(text)), ("value", number, exponent), text)
 
 
+def _prefixes(texts: Iterable[bytes]) -> set[bytes]:
+    return {text[:size] for text in texts for size in range(len(text) + 1)}
+
+
+def _check_bad_place(tally: Tally, form: str, text: bytes, firsts: set[bytes], shape: Callable[[bytes], bytes] = bytes) -> None:
+    """By the definition: some well-written field has the bytes before the place, and none has that byte too; one place only."""
+    bad = [i for i in range(len(text)) if shape(text[:i]) in firsts and shape(text[: i + 1]) not in firsts]
+    tally.equal([bad_place(form, text)], bad, "the bad byte of", form, text)
+
+
+def bad_places(tally: Tally, rng: random.Random) -> None:
+    """The place of a 6 (document 02, No. 5): of every text of I4 and I6 over five letters by all that are well written; by hand."""
+    for form, width in (("I4", 4), ("I6", 6)):
+        texts = [bytes(letters) for letters in itertools.product(b"5 -.x", repeat=width)]
+        written = {text for text in texts if decimal(form, text) != ("bad",)}
+        firsts = _prefixes(written)
+        for text in texts:
+            if text not in written:
+                _check_bad_place(tally, form, text, firsts)
+    for form, text, at in (
+        ("F16.7", "b" * 15 + "1", 15), ("F16.7", "bbbbb1.000000000", 6), ("F16.7", "-" + "b" * 15, 8), ("F16.7", "bbbbbbbb-.500000", 8),
+        ("F16.7", "-bbbbb-1.0000000", 6), ("F16.7", "-bbbbb1b.0000000", 7), ("F16.7", "b" * 9 + "5000000", 9), ("F8.3", "12345.67", 4),
+        ("I4", "bbb-", 3), ("I4", "b-b1", 2), ("I4", "1bbb", 1), ("I6", "-b1234", 1), ("I16", "-" + "b" * 15, 1), ("I8", "+" * 8, 1),
+        ("E20.13", "b" * 16 + "E+02", 16), ("E20.13", "-b.0000000000001E 07", 17), ("E20.13", "b1.0000000000000E+0b", 19),
+        ("E20.13", "-b10000000000000E+07", 2),
+    ):
+        tally.equal(bad_place(form, b(text)), at, "a bad byte by hand", form, text)
+        tally.equal(decimal(form, b(text)), ("bad",), "badly written", form, text)
+    for form, width in make.WIDTH.items():
+        tally.equal(bad_place(form, b" " * width), width - 1, "blank where a number is needed", form)
+        for text, at in make.badly_written(form):
+            tally.equal(bad_place(form, text), at, "a maker's bad byte", form, text)
+
+
+SHAPES = bytes.maketrans(b"0123456789+", b"5555555555-")
+
+
+def _written_shapes(form: str) -> Iterator[bytes]:
+    """Every well-written field of the form, blank too, one digit for all and one sign for both: spelt from the table, not read."""
+    width, places = make.WIDTH[form], make.PLACES.get(form)
+    tail = b"" if places is None else b"." + b"5" * places + (b"E-55" if form[0] == "E" else b"")
+    lead = width - len(tail)
+    yield b" " * width
+    for digits in range(0 if tail else 1, lead + 1):
+        yield b" " * (lead - digits) + b"5" * digits + tail
+        for gap in range(lead - digits if tail else 1):  # blanks behind the sign
+            if digits < lead:
+                yield b" " * (lead - digits - gap - 1) + b"-" + b" " * gap + b"5" * digits + tail
+
+
+def _perhaps_bad(rng: random.Random, form: str) -> bytes:
+    """Letters of the grammar; or a well-written field with one to three bytes changed, or its bytes moved by one."""
+    width = make.WIDTH[form]
+    if rng.random() < 0.2:
+        return bytes(rng.choice(b"  5+-.E0x") for _ in range(width))
+    text = bytearray(make.spell_listed(rng, form)[0])
+    if rng.random() < 0.2:
+        text = bytearray(rng.choice((text[1:] + b" ", text[1:] + b"7", b" " + text[:-1])))
+    for _ in range(rng.randint(1, 3)):
+        text[rng.randrange(width)] = rng.choice((rng.choice(b"  5+-.E09ex"), rng.randrange(256)))
+    return bytes(text)
+
+
+def drawn_bad_places(tally: Tally, rng: random.Random) -> None:
+    """The place of a 6 of drawn texts of every form, by the first bytes of all well-written fields."""
+    seen = 0
+    for form in make.WIDTH:
+        written = set(_written_shapes(form))
+        tally.check(all(decimal(form, text) != ("bad",) for text in written), "spelt fields are well written", form)
+        firsts = _prefixes(written)
+        for _ in range(4000):
+            text = _perhaps_bad(rng, form)
+            bad = decimal(form, text) == ("bad",)
+            tally.equal(text.translate(SHAPES) in written, not bad, "well written exactly if it is spelt so", form, text)
+            if bad:
+                seen += 1
+                _check_bad_place(tally, form, text, firsts, lambda first: first.translate(SHAPES))
+    tally.check(seen > 15_000, "enough that are bad", seen)
+
+
 def listed_fields(tally: Tally, rng: random.Random) -> None:
     """The field reader: order 14, 2, 6; ordinal 0; places in the bytes given."""
     ends = {1: 484, 2: 726, 3: 758, 4: 950, 5: 1906, 6: 1926, 7: 1946, 8: 1966, 9: 1986, 10: 2006, 11: 76, 12: 92, 13: 108}
@@ -234,8 +314,9 @@ def listed_fields(tally: Tally, rng: random.Random) -> None:
             data = patched(rng.randbytes(size), byte, text)  # the header isn't judged
             tally.equal(field(data, number), want, "field", number)
             tally.equal(field_at(data, byte - 1, form), want, "field_at", number)
-            bad = patched(data, byte, rng.choice(make.bad_texts(form)))
-            tally.equal(field(bad, number), refused(6, 0, byte - 1), "field 6", number)
+            badly, at = rng.choice(make.badly_written(form))
+            bad = patched(data, byte, badly)
+            tally.equal(field(bad, number), refused(6, 0, byte - 1 + at), "field 6", number, badly)
             cut = rng.choice((ends[number] - 1, rng.randrange(ends[number]), 0))
             tally.equal(field(bad[:cut], number), refused(2), "field 2 before 6", number, cut)
     for number in (0, 14, 15, 255, 2**32, 2**64 - 1):
@@ -915,9 +996,9 @@ def complex_edges(tally: Tally, rng: random.Random) -> None:
         (refused(8, 1, 0), data, (429, b"IU2 "), (225, b"   2")), (refused(8, 1, 0), counts, (429, b"C*8 "), (225, b"   8")),
         (refused(8, 1, 0), data, (281, b"       4")), (refused(8, 1, 0), data, (187, b"   430")),
         (refused(8, 1, 0), data, (187, b"   211")), (refused(8, 1, 0), data, (289, b"   5")),
-        (refused(6, 1, 224), data, (225, b"    ")), (refused(7, 1, 224), data, (225, b"  -8")), (refused(7, 1, 224), data, (225, b"  16")),
+        (refused(6, 1, 227), data, (225, b"    ")), (refused(7, 1, 224), data, (225, b"  -8")), (refused(7, 1, 224), data, (225, b"  16")),
         *((refused(8, 1, 428), image, (429, text), (225, b"   x")) for text in make.OTHER_TEXTS for image in (data, counts)),
-        (refused(8, 1, 12), data, (13, b"B "), (429, b"    ")), (refused(6, 1, 180), data, (181, b"     x"), (225, b"   2")),
+        (refused(8, 1, 12), data, (13, b"B "), (429, b"    ")), (refused(6, 1, 185), data, (181, b"     x"), (225, b"   2")),
     ):
         for byte, text in patches:
             image = patched(image, byte, text)
@@ -1132,7 +1213,7 @@ def same_seed(tally: Tally, rng: random.Random) -> None:
 
 
 SECTIONS: tuple[Callable[[Tally, random.Random], None], ...] = (
-    proved_examples, edges_and_slips, listing_examples, decimals, listed_fields, begins, state_rule_by_hand,
+    proved_examples, edges_and_slips, listing_examples, decimals, bad_places, drawn_bad_places, listed_fields, begins, state_rule_by_hand,
     states_and_first_records, any_states, far_places, valid_files, unread_bytes, blank_counts, broken_singly,
     broken_in_pairs, broken_and_cut, complete_and_accepted, in_pieces, byte_by_byte, refusals_stay, arriving,
     body_damage_at_ends, lines_and_rows, broken_lines, lines_shown, sets, listings,

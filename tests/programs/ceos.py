@@ -27,6 +27,7 @@ from commands import TESTS  # noqa: E402
 from running import NATIVE, Ran, Wrong, all_parts, checks, hold  # noqa: E402
 import make  # noqa: E402  (commands.py puts tests/oracle on the path)
 import reader as oracle  # noqa: E402
+import marked  # noqa: E402
 import samples as complex_samples  # noqa: E402
 from floats import spelt_rows  # noqa: E402
 from reader import EVERY_RECORD, IMAGE, LEADER, N, TRAILER, VOLUME, Answer, State  # noqa: E402
@@ -89,20 +90,28 @@ def try_case(number: int, case: Case) -> tuple[Case, Ran]:
     return case, found
 
 
+def messages_due(rows: str, paths: Sequence[Path], files: Sequence[bytes]) -> str:
+    """A pattern: a message for each refusal, with its number, record and place, and of a 6 the marked field; nothing else."""
+    due = []
+    for title, number, record, place in re.findall(r'(?:<(\d+)>: )?REFUSED (\d+) RECORD (\d+) AT (\d+)\n', rows):
+        path, data = paths[int(title or 0)], files[int(title or 0)]
+        due.append(re.escape(f'ceos: {path}: refusal {number}, record {record}, at {place}: ') + r'\w.*')
+        due += map(re.escape, marked.lines(path, data, int(record), int(place)) if number == '6' else [])
+    return ''.join(line + r'\n' for line in due)
+
+
 def try_all(what: str, cases: Sequence[Case]) -> str:
-    """Each answers its rows and its status; a message comes with a refusal, says its number, record and place, and with nothing else."""
+    """Each answers its rows and its status; messages come with refusals, and with nothing else."""
     cases = cases[::EVERY]
     with ThreadPoolExecutor(2) as pool:
         for number, (case, found) in enumerate(pool.map(try_case, range(len(cases)), cases)):
             title = f'{what}, case {number}: {case.before} {[len(data) for data in case.files]} {case.after}'
-            rows = case.rows
-            for i, path in enumerate(names(number, len(case.files))):
+            rows, paths = case.rows, names(number, len(case.files))
+            for i, path in enumerate(paths):
                 rows = rows.replace(f'<{i}>', str(path))
             hold(title, found.rows, rows)
             hold(title, found.status, case.status)
-            refused = re.findall(r'REFUSED (\d+) RECORD (\d+) AT (\d+)\n', rows)
-            hold(title, re.findall(r'refusal (\d+), record (\d+), at (\d+): \w.*\n', found.messages), refused)
-            hold(title, found.messages.count('\n'), len(refused))
+            matches(title, found.messages, messages_due(case.rows, paths, case.files))
     return f'{len(cases)} {what}'
 
 

@@ -2,9 +2,10 @@
 use Prim.Native.Nat.{ℕ, _+_, _-_, _≤_, _<_}
 use mathlib.Core.Path.{_≡_, refl, sym, ap}
 use mathlib.Core.List.{List}
+use native.Mathlib.Nat.{min-le-left}
 use native.Mathlib.Omega.{arith}
 use lib.Dec.{ltb}
-use lib.ListN.{length, take, drop, length-drop}
+use lib.ListN.{length, take, drop, length-drop, length-take}
 use lib.Seq.{length-take-le}
 use mathlib.Core.Bool.{Bool, true, false}
 use borrow.Author.Tests.{lt-ltb, le-ltb, ltb-true, ltb-false}
@@ -15,8 +16,12 @@ use Rattle.decimal.specs.Scan.{written, decimalOf}
 use Rattle.decimal.specs.declared.Form.{Form}
 use Rattle.decimal.specs.declared.Shape.{Shape}
 use Rattle.decimal.proofs.Laws.{wide}
+use Rattle.bad_byte.specs.Columns.{badIn}
+use Rattle.bad_byte.proofs.Named.{at-most}
 use Rattle.fields.specs.Shaped.{shapedAt}
-use Rattle.fields.specs.Field.{refuse, fromWritten, fieldBytes, fieldAt}
+use Rattle.fields.specs.Field.{refuse, fromWritten, fieldBytes, badPlace, fieldAt}
+use Rattle.fields.specs.declared.Field.{Field}
+use Rattle.fields.specs.declared.Field.the-variants.{Blank}
 use Rattle.fields.specs.Listed.{listed, listedField}
 
 module _ (b : List ℕ) (at : ℕ) (k : Form) where
@@ -26,7 +31,7 @@ module _ (b : List ℕ) (at : ℕ) (k : Form) where
   short h = rw (lt-ltb (length b) (at + widthOf k) h)
 
   -- the field's bytes are all there
-  pub whole : at + widthOf k ≤ length b → fieldAt b at k ≡ fromWritten at (written k (fieldBytes b at k))
+  pub whole : at + widthOf k ≤ length b → fieldAt b at k ≡ fromWritten (badPlace b at k) (written k (fieldBytes b at k))
   unfolding fieldAt
   whole h = rw (le-ltb (length b) (at + widthOf k) h)
 
@@ -48,13 +53,17 @@ same-test l at n h = go (ltb (l - n) at) refl
     go true e = let q = ltb-true (l - n) at e in sym (lt-ltb l (at + n) (omega (arith, q)))
     go false e = let q = ltb-false (l - n) at e in sym (le-ltb l (at + n) (omega (arith, q)))
 
+-- what bytes at a place say as a field of a shape
+abbrev pub shapedIn : ℕ → Shape → List ℕ → Field
+shapedIn at s f = fromWritten (at + badIn s f) (decimalOf s f)
+
 -- a field of some width and shape: short or not
 module _ (b : List ℕ) (at n : ℕ) (s : Shape) where
   pub shaped-short : ltb (length b) (at + n) ≡ true → shapedAt b at n s ≡ refuse 2 0
   unfolding shapedAt
   shaped-short e = rw e
 
-  pub shaped-there : ltb (length b) (at + n) ≡ false → shapedAt b at n s ≡ fromWritten at (decimalOf s (take (at + n - at) (drop at b)))
+  pub shaped-there : ltb (length b) (at + n) ≡ false → shapedAt b at n s ≡ shapedIn at s (take (at + n - at) (drop at b))
   unfolding shapedAt
   shaped-there e = let q : at + n - at ≡ n = omega arith in rw (e, q)
 
@@ -64,9 +73,26 @@ unfolding shapedAt fieldAt
 shaped b at k = go (ltb (length b) (at + widthOf k)) refl
   where
     go : (t : Bool) → ltb (length b) (at + widthOf k) ≡ t
-        → pick t (refuse 2 0) (fromWritten at (decimalOf (shapeOf k) (take (widthOf k) (drop at b))))
-        ≡ pick t (refuse 2 0) (fromWritten at (written k (fieldBytes b at k)))
+        → pick t (refuse 2 0) (shapedIn at (shapeOf k) (take (widthOf k) (drop at b)))
+        ≡ pick t (refuse 2 0) (fromWritten (badPlace b at k) (written k (fieldBytes b at k)))
     go true e = refl
     go false e =
         let l : at + widthOf k ≤ length b = ltb-false (length b) (at + widthOf k) e in
-        ap (fromWritten at) (sym (wide k (take (widthOf k) (drop at b)) (length-take-le (widthOf k) (drop at b) (simp length-drop (omega (arith, l))))))
+        ap (fromWritten (badPlace b at k))
+        (sym (wide k (take (widthOf k) (drop at b)) (length-take-le (widthOf k) (drop at b) (simp length-drop (omega (arith, l))))))
+
+-- a field that is blank is there
+pub blank-there : (b : List ℕ) (at : ℕ) (k : Form) → fieldAt b at k ≡ Blank → at + widthOf k ≤ length b
+unfolding fieldAt
+blank-there b at k e = go (ltb (length b) (at + widthOf k)) refl e
+  where
+    go : (t : Bool) → ltb (length b) (at + widthOf k) ≡ t → pick t (refuse 2 0) (fromWritten (badPlace b at k) (written k (fieldBytes b at k))) ≡ Blank
+        → at + widthOf k ≤ length b
+    go true q h = absurd (let z : _≡_ {A = ℕ} 0 1 = cc in omega arith)
+    go false q h = ltb-false (length b) (at + widthOf k) q
+
+-- a field's first bad byte is no further than its end
+pub bad-within : (b : List ℕ) (at : ℕ) (k : Form) → badPlace b at k ≤ at + widthOf k
+bad-within b at k =
+    let t : length (fieldBytes b at k) ≤ widthOf k = rw (length-take (widthOf k) (drop at b)) (min-le-left (widthOf k) (length (drop at b))) in
+    omega (arith, at-most (shapeOf k) (fieldBytes b at k), t)

@@ -1,5 +1,5 @@
 -- `field-named`: a field's answer, in document 01's words, is the grammar's answer on its bytes: a value exactly where they are written with that value,
--- blank exactly where they are all blank, 6 exactly where they are neither; by the soundness and completeness of `decimal`.
+-- blank exactly where they are all blank, 6 exactly where they are neither, at their first bad byte; by what `decimal` and `bad_byte` have shown.
 use Prim.Native.Nat.{ℕ, _+_, _-_, _≤_, _<_}
 use mathlib.Core.Path.{_≡_, refl, sym, ap, _∙_, subst}
 use mathlib.Core.List.{List}
@@ -24,7 +24,10 @@ use Rattle.decimal.specs.declared.Shape.{Shape}
 use Rattle.decimal.specs.declared.Written.{Written}
 use Rattle.decimal.specs.declared.Written.the-variants.{Number, Blank, Bad}
 use Rattle.decimal.proofs.Answer.{says, reads, never}
-use Rattle.fields.specs.Field.{refuse, fromWritten, fieldBytes, fieldAt, fieldAs}
+use Rattle.bad_byte.specs.BadByte.{BadAt}
+use Rattle.bad_byte.specs.Columns.{badIn}
+use Rattle.bad_byte.proofs.Named.{bad-named, bad-one, bad-never}
+use Rattle.fields.specs.Field.{refuse, fromWritten, fieldBytes, badPlace, fieldAt, fieldAs}
 use Rattle.fields.specs.Listed.{listed, listedField}
 use Rattle.fields.proofs.Laws as laws
 
@@ -50,10 +53,10 @@ blank-of at (Number m′ e′) q = let w = word-of q in cc
 blank-of at Blank q = refl
 blank-of at Bad q = let w = word-of q in cc
 
-bad-of : (at : ℕ) (w : Written) → fieldAs (fromWritten at w) ≡ refusal 6 at → w ≡ Bad
-bad-of at (Number m′ e′) q = let w = word-of q in cc
-bad-of at Blank q = let w = word-of q in cc
-bad-of at Bad q = refl
+bad-of : (at : ℕ) (w : Written) (p : ℕ) → fieldAs (fromWritten at w) ≡ refusal 6 p → (w ≡ Bad) × (at ≡ p)
+bad-of at (Number m′ e′) p q = let w = word-of q in absurd (let z : _≡_ {A = ℕ} 0 1 = cc in omega arith)
+bad-of at Blank p q = let w = word-of q in absurd (let z : _≡_ {A = ℕ} 0 1 = cc in omega arith)
+bad-of at Bad p q = let w = numbers-of q in (refl, cc)
 
 -- nothing that is written is a refusal of another number
 other-of : (at : ℕ) (w : Written) (n p : ℕ) → (n ≡ 6 → ⊥) → fieldAs (fromWritten at w) ≡ refusal n p → ⊥
@@ -94,43 +97,74 @@ module _ (k : Form) (bs : List ℕ) where
 pub record Named (b : List ℕ) (at : ℕ) (k : Form) : Type 0 where
   pub value : (m e : ℤ) → (fieldAs (fieldAt b at k) ≡ valued m e) ↔ grammar.WellWritten k (fieldBytes b at k) (Number m e)
   pub blanked : (fieldAs (fieldAt b at k) ≡ bare blank) ↔ (fieldBytes b at k ≡ replicate (widthOf k) 32)
-  pub refused : (fieldAs (fieldAt b at k) ≡ refusal 6 at) ↔ ((r : Written) → grammar.WellWritten k (fieldBytes b at k) r → ⊥)
+  pub refused : (p : ℕ) → (fieldAs (fieldAt b at k) ≡ refusal 6 p) ↔ ((i : ℕ) × (p ≡ at + i) × BadAt (shapeOf k) (widthOf k) (fieldBytes b at k) i)
+  pub either : ((p : ℕ) × (fieldAs (fieldAt b at k) ≡ refusal 6 p)) ↔ ((r : Written) → grammar.WellWritten k (fieldBytes b at k) r → ⊥)
   pub no-other : (n p : ℕ) → (n ≡ 6 → ⊥) → fieldAs (fieldAt b at k) ≡ refusal n p → ⊥
 
 module _ (b : List ℕ) (at : ℕ) (k : Form) (here : at + widthOf k ≤ length b) where
   bs-length : length (fieldBytes b at k) ≡ widthOf k
   bs-length = length-take-le (widthOf k) (drop at b) (rw length-drop (omega arith))
 
-  told : fieldAs (fieldAt b at k) ≡ fieldAs (fromWritten at (written k (fieldBytes b at k)))
+  told : fieldAs (fieldAt b at k) ≡ fieldAs (fromWritten (badPlace b at k) (written k (fieldBytes b at k)))
   told = ap fieldAs (laws.whole b at k here)
+
+  -- what is written there is the answer
+  answered : {r : Written} → written k (fieldBytes b at k) ≡ r → fieldAs (fieldAt b at k) ≡ fieldAs (fromWritten (badPlace b at k) r)
+  answered e = told ∙ ap (λ (w : Written). fieldAs (fromWritten (badPlace b at k) w)) e
+
+  -- where nothing is well written, that is what is read
+  nothing : ((r : Written) → grammar.WellWritten k (fieldBytes b at k) r → ⊥) → written k (fieldBytes b at k) ≡ Bad
+  nothing n = go (written k (fieldBytes b at k)) (says k (fieldBytes b at k))
+    where
+      go : (x : Written) → Means k (fieldBytes b at k) x → x ≡ Bad
+      go x (well f) = absurd (n x f)
+      go x (badly m) = refl
+
+  -- the place of a 6 is that of the first bad byte
+  pointed : written k (fieldBytes b at k) ≡ Bad → BadAt (shapeOf k) (widthOf k) (fieldBytes b at k) (badIn (shapeOf k) (fieldBytes b at k))
+  pointed e =
+      subst (λ (n : ℕ). BadAt (shapeOf k) n (fieldBytes b at k) (badIn (shapeOf k) (fieldBytes b at k))) bs-length
+      (bad-named (shapeOf k) (fieldBytes b at k) (λ r g. none-of k (fieldBytes b at k) e r (bs-length, g)))
+
+  unwritten : (i : ℕ) → BadAt (shapeOf k) (widthOf k) (fieldBytes b at k) i → (r : Written) → grammar.WellWritten k (fieldBytes b at k) r → ⊥
+  unwritten i x r w = bad-never (shapeOf k) (fieldBytes b at k) i (w .1) (subst (λ (n : ℕ). BadAt (shapeOf k) n (fieldBytes b at k) i) (sym bs-length) x)
+
+  -- the same where nothing is well written
+  pub bad-here : ((r : Written) → grammar.WellWritten k (fieldBytes b at k) r → ⊥)
+      → BadAt (shapeOf k) (widthOf k) (fieldBytes b at k) (badIn (shapeOf k) (fieldBytes b at k))
+  bad-here n = pointed (nothing n)
+
+  -- and a field with a first bad byte is refused there
+  pub six-here : (i : ℕ) → BadAt (shapeOf k) (widthOf k) (fieldBytes b at k) i → fieldAt b at k ≡ refuse 6 (at + i)
+  six-here i x =
+      let e = nothing (unwritten i x) in
+      laws.whole b at k here ∙ ap (fromWritten (badPlace b at k)) e
+      ∙ ap (λ (j : ℕ). refuse 6 (at + j)) (bad-one (shapeOf k) (widthOf k) (fieldBytes b at k) _ i (pointed e) x)
 
   pub field-named : Named b at k
   field-named =
       record {
         value = λ m e. (
-          λ q. of-read k (fieldBytes b at k) (Number m e) (value-of at _ m e (sym told ∙ q)) (λ z. let c : _≡_ {A = ℕ} 0 1 = cc in omega arith),
-          λ f. told ∙ ap (λ (w : Written). fieldAs (fromWritten at w)) (reads k (fieldBytes b at k) (Number m e) f),
+          λ q. of-read k (fieldBytes b at k) (Number m e) (value-of (badPlace b at k) _ m e (sym told ∙ q)) (λ z. let c : _≡_ {A = ℕ} 0 1 = cc in omega arith),
+          λ f. answered (reads k (fieldBytes b at k) (Number m e) f),
         );
         blanked = (
           λ q.
-              let f = of-read k (fieldBytes b at k) Blank (blank-of at _ (sym told ∙ q)) (λ z. let c : _≡_ {A = ℕ} 0 1 = cc in omega arith) in
+              let f = of-read k (fieldBytes b at k) Blank (blank-of (badPlace b at k) _ (sym told ∙ q)) (λ z. let c : _≡_ {A = ℕ} 0 1 = cc in omega arith) in
               all-blank (f .1) refl ∙ ap (λ (i : ℕ). replicate i 32) bs-length,
-          λ e. told ∙ ap (λ (w : Written). fieldAs (fromWritten at w))
+          λ e. answered
               (reads k (fieldBytes b at k) Blank (bs-length, subst (λ (l : List ℕ). Good true (shapeOf k) l Blank) (sym e) (blanks (shapeOf k) (widthOf k)))),
         );
-        refused = (
-          λ q. none-of k (fieldBytes b at k) (bad-of at _ (sym told ∙ q)),
-          λ n. told ∙ ap (λ (w : Written). fieldAs (fromWritten at w)) (refused n),
+        refused = λ p. (
+          λ q. let o = bad-of (badPlace b at k) _ p (sym told ∙ q) in (badIn (shapeOf k) (fieldBytes b at k), sym (o .1), pointed (o .0)),
+          λ x. ap fieldAs (six-here (x .0) (x .2)) ∙ ap (refusal 6) (sym (x .1)),
         );
-        no-other = λ n p h q. other-of at (written k (fieldBytes b at k)) n p h (sym told ∙ q);
+        either = (
+          λ q. none-of k (fieldBytes b at k) (bad-of (badPlace b at k) _ (q .0) (sym told ∙ q .1) .0),
+          λ n. (badPlace b at k, answered (nothing n)),
+        );
+        no-other = λ n p h q. other-of (badPlace b at k) (written k (fieldBytes b at k)) n p h (sym told ∙ q);
       }
-    where
-      refused : ((r : Written) → grammar.WellWritten k (fieldBytes b at k) r → ⊥) → written k (fieldBytes b at k) ≡ Bad
-      refused n = go (written k (fieldBytes b at k)) (says k (fieldBytes b at k))
-        where
-          go : (x : Written) → Means k (fieldBytes b at k) x → x ≡ Bad
-          go x (well f) = absurd (n x f)
-          go x (badly m) = refl
 
 -- `listed-named`: the field reader. 14 exactly where there is no such listed field; 2 exactly where there is one and the bytes end before it does; else it
 -- is named as above.

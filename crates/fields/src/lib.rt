@@ -2,14 +2,16 @@
 // (document 01, "Listed fields"). A record's header is not judged here, and places count from the
 // first of the bytes handed over.
 use decimal::Form;
+use decimal::Shape;
 use decimal::Written;
 use words::Refusal;
 ghost use mathlib.Core.Path.{_≡_};
-ghost use Prim.Native.Nat.{_<_, _+_};
+ghost use Prim.Native.Nat.{_<_, _+_, _^_};
 ghost use lib.Dec.{ltb};
 ghost use lib.ListN.{length};
 ghost use Rattle.decimal.specs.Scan.{Fit};
 ghost use Rattle.decimal.specs.declared.Shape.the-variants.{Whole, Fixed, Expo};
+ghost use Rattle.bad_byte.specs.Columns.{badIn};
 ghost use Rattle.fields.specs.Shaped.{shapedAt};
 ghost use Rattle.fields.specs.Field.{fieldAt, fromWritten, refuse};
 ghost use Rattle.fields.specs.Listed.{row, listed, listedField};
@@ -35,14 +37,16 @@ fn refused(number: u64, place: u64) -> Field
     Field::Refused(words::at_place(number, place))
 }
 
-// Badly written is refusal 6 at the field's first byte.
-fn from_written(w: Written, at: usize) -> Field
-    ensures { λ r. ⌜ r ≡ fromWritten at w ⌝ }
+// What is written in the bytes f at a place. Badly written is refusal 6 at the first bad byte, which is
+// looked for only then (document 02, No. 5).
+fn from_written(w: Written, f: &[u8], at: usize, shape: Shape) -> Field
+    requires { ⌜ at + length (now f) < 2 ^ 64 ⌝ }
+    ensures { λ r. ⌜ r ≡ fromWritten (at + badIn shape (now (f .entry))) w ⌝ }
 {
     match w {
         Written::Number(m, e) => Field::Value(m, e),
         Written::Blank => Field::Blank,
-        Written::Bad => refused(6, at as u64),
+        Written::Bad => refused(6, (at + bad_byte::place(f, shape)) as u64),
     }
 }
 
@@ -67,7 +71,8 @@ fn whole_at(bytes: &[u8], at: usize, n: usize) -> Field
         return refused(2, 0);
     }
     let end = at + n;
-    from_written(decimal::whole(&bytes[at..end]), at)
+    let w = decimal::whole(&bytes[at..end]);
+    from_written(w, &bytes[at..end], at, Shape::Whole)
 }
 
 // A number of n bytes with so many places at a place.
@@ -79,7 +84,8 @@ fn fixed_at(bytes: &[u8], at: usize, n: usize, places: usize) -> Field
         return refused(2, 0);
     }
     let end = at + n;
-    from_written(decimal::fixed(&bytes[at..end], places), at)
+    let w = decimal::fixed(&bytes[at..end], places);
+    from_written(w, &bytes[at..end], at, Shape::Fixed(places))
 }
 
 // A number of n bytes with so many places and an exponent at a place.
@@ -91,7 +97,8 @@ fn expo_at(bytes: &[u8], at: usize, n: usize, places: usize) -> Field
         return refused(2, 0);
     }
     let end = at + n;
-    from_written(decimal::expo(&bytes[at..end], places), at)
+    let w = decimal::expo(&bytes[at..end], places);
+    from_written(w, &bytes[at..end], at, Shape::Expo(places))
 }
 
 // What the field of this form at a place says. Each form's width and places stand here as numbers, so that

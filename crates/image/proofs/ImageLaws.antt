@@ -21,7 +21,7 @@ use Rattle.fields.specs.declared.Field.{Field}
 use Rattle.fields.specs.declared.Field.the-variants.{Value}
 use Rattle.verdicts.specs.Tests.{firstFault, allHold, textAt}
 use Rattle.verdicts.specs.Tests.{Test, each, faultOf, wholeOf}
-use Rattle.verdicts.specs.Numbers.{number, at, numberAt, rowTests, numbersTests}
+use Rattle.verdicts.specs.Numbers.{number, at, lastOf, numberAt, rowTests, numbersTests}
 use Rattle.image.specs.Image.{sortIn, imageNumbers, imageRow, numberField, rowNumber, Read, imageTexts, agreeTests}
 use Rattle.image.specs.Image.{agreements, imageTests, unnamed, namedBy}
 use Rattle.image.specs.Image.{describedOf, lineTests}
@@ -83,7 +83,8 @@ left sort r i = each (rowTests r) (slice i 8 (imageNumbers sort))
 -- row i's verdict, of the field that the code reads
 module _ (sort : ℕ) (r : List ℕ) (i : ℕ) {f : Field} (e : f ≡ numberField r (imageRow sort i)) where
   row-verdict : faultOf f ≡ firstFault (rowTests r (imageRow sort i))
-  row-verdict = ap faultOf e ∙ needed-fault (placeOf (imageRow sort i .byte)) (imageRow sort i .least) (imageRow sort i .most)
+  row-verdict = ap faultOf e
+      ∙ needed-fault (placeOf (imageRow sort i .byte)) (lastOf (imageRow sort i .byte) (imageRow sort i .form)) (imageRow sort i .least) (imageRow sort i .most)
       (at r (imageRow sort i .byte) (imageRow sort i .form))
 
   -- a field that is no value has the first fault of what is left
@@ -91,7 +92,7 @@ module _ (sort : ℕ) (r : List ℕ) (i : ℕ) {f : Field} (e : f ≡ numberFiel
   unfolding imageRow
   row-none h k =
       let x = imageRow sort i in
-      let q = needed-none (placeOf (x .byte)) (x .least) (x .most) (at r (x .byte) (x .form))
+      let q = needed-none (placeOf (x .byte)) (lastOf (x .byte) (x .form)) (x .least) (x .most) (at r (x .byte) (x .form))
       (subst (λ (y : Field). OneOf (1 ∷ 2 ∷ []) (tagOf the-type y)) e k) in
       let s : faultOf f ≡ Fault (q .0) (q .1 .0) = ap faultOf e ∙ q .1 .1 in
       (q .0, (q .1 .0, s), row-found (rowTests r) (imageNumbers sort) (number 0 I4 0 0) i 8 h (omega arith) row-verdict s)
@@ -99,7 +100,9 @@ module _ (sort : ℕ) (r : List ℕ) (i : ℕ) {f : Field} (e : f ≡ numberFiel
   -- a value passes, and is the row's number
   module _ {v x : ℤ} (q : f ≡ Value v x) where
     pub row-value : wholeOf v ≡ rowNumber r (imageRow sort i)
-    row-value = needed-number (placeOf (imageRow sort i .byte)) (imageRow sort i .least) (imageRow sort i .most)
+    row-value =
+        needed-number (placeOf (imageRow sort i .byte)) (lastOf (imageRow sort i .byte) (imageRow sort i .form))
+        (imageRow sort i .least) (imageRow sort i .most)
         (at r (imageRow sort i .byte) (imageRow sort i .form)) v x (sym e ∙ q)
 
     pub row-next : i < 8 → firstFault (left sort r i) ≡ firstFault (left sort r (i + 1))

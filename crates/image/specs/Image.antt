@@ -12,7 +12,7 @@ use Rattle.decimal.specs.declared.Form.the-variants.{I4, I6, I8}
 use Rattle.fields.specs.declared.Field.{Field}
 use Rattle.plan.specs.Tables.{sortOf}
 use Rattle.verdicts.specs.Tests.{Test, test, textAt, textTest, firstFault, neededOf}
-use Rattle.verdicts.specs.Numbers.{Number, number, at, numberAt, numbersTests, firstText}
+use Rattle.verdicts.specs.Numbers.{Number, number, at, lastOf, numberAt, numbersTests, firstText}
 use Rattle.verdicts.specs.declared.Verdict.{Verdict}
 use Rattle.verdicts.specs.declared.Verdict.the-variants.{Fine, Fault}
 use Rattle.image.specs.declared.Described.{Described}
@@ -80,7 +80,7 @@ describedOf r = namedBy (firstFault (imageTests r)) r
 
 -- the number fields as the code read them: the verdict on them, and where nothing is wrong, what they say
 abbrev pub numberField : List ℕ → Number → Field
-numberField r x = neededOf (at r (x .byte) (x .form)) (placeOf (x .byte)) (x .least) (x .most)
+numberField r x = neededOf (at r (x .byte) (x .form)) (placeOf (x .byte)) (lastOf (x .byte) (x .form)) (x .least) (x .most)
 
 abbrev pub rowNumber : List ℕ → Number → ℕ
 rowNumber r x = numberAt r (x .byte) (x .form)

@@ -16,7 +16,7 @@ use Rattle.fields.specs.declared.Field.{Field}
 use Rattle.fields.specs.declared.Field.the-variants.{Value}
 use Rattle.plan.specs.Tables.{slotOf}
 use Rattle.verdicts.specs.Tests.{Test, firstFault, countTests, numberTests, faultOf, wholeOf, countedOf, neededOf}
-use Rattle.verdicts.specs.Numbers.{at, numberAt}
+use Rattle.verdicts.specs.Numbers.{at, lastOf, numberAt}
 use Rattle.leader.specs.Leader.{countAt, lengthAt, pairTests, PairRead}
 use Rattle.leader.specs.declared.Held.{Held}
 use Rattle.leader.specs.declared.Pair.{Pair}
@@ -32,7 +32,8 @@ module _ (r : List ℕ) (x : Pair) where
   counting = countTests (at r (x .byte) I6) (placeOf (x .byte)) (slotOf (x .row) .least) (slotOf (x .row) .most)
 
   abbrev pub measuring : List Test
-  measuring = numberTests (at r (x .byte + 6) (x .form)) (placeOf (x .byte + 6)) (slotOf (x .row) .shortest) (slotOf (x .row) .longest)
+  measuring =
+      numberTests (at r (x .byte + 6) (x .form)) (placeOf (x .byte + 6)) (lastOf (x .byte + 6) (x .form)) (slotOf (x .row) .shortest) (slotOf (x .row) .longest)
 
   behind : List Test
   behind = pick (eqb (countAt r x) 0) [] measuring
@@ -73,7 +74,9 @@ module _ (r : List ℕ) (x : Pair) where
     unfolding behind
     length-in z =
         let k : Holds measuring = subst (λ (b : Bool). Holds (pick b [] measuring)) (ne-eqb (countAt r x) 0 z) (halves .1) in
-        rw (length-some z) (number-holds (at r (x .byte + 6) (x .form)) (placeOf (x .byte + 6)) (slotOf (x .row) .shortest) (slotOf (x .row) .longest) k)
+        rw (length-some z)
+        (number-holds (at r (x .byte + 6) (x .form)) (placeOf (x .byte + 6)) (lastOf (x .byte + 6) (x .form))
+        (slotOf (x .row) .shortest) (slotOf (x .row) .longest) k)
 
 -- ---- a pair as the code reads it: f is its count's field, g its length's
 
@@ -111,17 +114,20 @@ module _ (r : List ℕ) (x : Pair) (f : Field) (e : f ≡ countedOf (at r (x .by
         }
 
     module _ (n : wholeOf c ≡ 0 → ⊥) (g : Field)
-        (k : g ≡ neededOf (at r (x .byte + 6) (x .form)) (placeOf (x .byte + 6)) (slotOf (x .row) .shortest) (slotOf (x .row) .longest))
+        (k : g ≡ neededOf (at r (x .byte + 6) (x .form)) (placeOf (x .byte + 6)) (lastOf (x .byte + 6) (x .form)) (slotOf (x .row) .shortest)
+        (slotOf (x .row) .longest))
       where
         of-length : faultOf g ≡ firstFault (pairTests r x)
         of-length =
             ap faultOf k
-            ∙ needed-fault (placeOf (x .byte + 6)) (slotOf (x .row) .shortest) (slotOf (x .row) .longest) (at r (x .byte + 6) (x .form))
+            ∙ needed-fault (placeOf (x .byte + 6)) (lastOf (x .byte + 6) (x .form)) (slotOf (x .row) .shortest) (slotOf (x .row) .longest)
+            (at r (x .byte + 6) (x .form))
             ∙ pair-some r x of-count of-fine (λ z. n (count-is ∙ z))
 
         pub bad-length : OneOf (1 ∷ 2 ∷ []) (tagOf the-type g) → (y : Held) → y ≡ record { verdict = faultOf g; count = 0; length = 0 } → PairRead r x y
         bad-length o y h =
-            let q = needed-none (placeOf (x .byte + 6)) (slotOf (x .row) .shortest) (slotOf (x .row) .longest) (at r (x .byte + 6) (x .form))
+            let q = needed-none (placeOf (x .byte + 6)) (lastOf (x .byte + 6) (x .form)) (slotOf (x .row) .shortest) (slotOf (x .row) .longest)
+            (at r (x .byte + 6) (x .form))
             (subst (λ (z : Field). OneOf (1 ∷ 2 ∷ []) (tagOf the-type z)) k o) in
             let s : faultOf g ≡ Fault (q .0) (q .1 .0) = ap faultOf k ∙ q .1 .1 in
             let v = ap (λ (z : Held). z .verdict) h in
@@ -134,6 +140,7 @@ module _ (r : List ℕ) (x : Pair) (f : Field) (e : f ≡ countedOf (at r (x .by
               count = λ _. i ∙ count-is;
               length = λ _.
                   j
-                  ∙ needed-number (placeOf (x .byte + 6)) (slotOf (x .row) .shortest) (slotOf (x .row) .longest) (at r (x .byte + 6) (x .form)) l m (sym k ∙ o)
+                  ∙ needed-number (placeOf (x .byte + 6)) (lastOf (x .byte + 6) (x .form)) (slotOf (x .row) .shortest) (slotOf (x .row) .longest)
+                  (at r (x .byte + 6) (x .form)) l m (sym k ∙ o)
                   ∙ sym (length-some r x (λ z. n (count-is ∙ z)));
             }

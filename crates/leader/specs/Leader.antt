@@ -15,7 +15,7 @@ use Rattle.fields.specs.declared.Listed.{Listed}
 use Rattle.plan.specs.Tables.{rows, slotOf}
 use Rattle.plan.specs.declared.Slot.{Slot}
 use Rattle.verdicts.specs.Tests.{Test, firstFault, each, numberTests, countTests, readableTest}
-use Rattle.verdicts.specs.Numbers.{at, numberAt, firstText}
+use Rattle.verdicts.specs.Numbers.{at, lastOf, numberAt, firstText}
 use Rattle.verdicts.specs.declared.Verdict.{Verdict}
 use Rattle.verdicts.specs.declared.Verdict.the-variants.{Fine, Fault}
 use Rattle.leader.specs.declared.Pair.{Pair}
@@ -83,7 +83,8 @@ lengthAt r x = pick (eqb (countAt r x) 0) 0 (numberAt r (x .byte + 6) (x .form))
 abbrev pub slotTests : List ℕ → Pair → Slot → List Test
 slotTests r x s =
     countTests (at r (x .byte) I6) (placeOf (x .byte)) (s .least) (s .most)
-    ++ pick (eqb (countAt r x) 0) [] (numberTests (at r (x .byte + 6) (x .form)) (placeOf (x .byte + 6)) (s .shortest) (s .longest))
+    ++ pick (eqb (countAt r x) 0) []
+    (numberTests (at r (x .byte + 6) (x .form)) (placeOf (x .byte + 6)) (lastOf (x .byte + 6) (x .form)) (s .shortest) (s .longest))
 
 unfoldable pub pairTests : List ℕ → Pair → List Test
 pairTests r x = slotTests r x (slotOf (x .row))

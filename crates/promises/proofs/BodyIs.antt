@@ -15,7 +15,7 @@ use Rattle.decimal.specs.Text.{bytes}
 use Rattle.decimal.specs.declared.Form.the-variants.{I8, I16, F8d3, F16d7, E20d13}
 use Rattle.plan.specs.declared.Plan.{Plan}
 use Rattle.verdicts.specs.Tests.{firstFault, textAt}
-use Rattle.verdicts.specs.Numbers.{at, numberAt, numbersTests}
+use Rattle.verdicts.specs.Numbers.{at, lastOf, numberAt, numbersTests}
 use Rattle.volume.specs.Volume.{classText, pointerTests, volumeRecord}
 use Rattle.leader.specs.Leader.{fieldsTests, leaderRecord}
 use Rattle.image.specs.Image.{lineTests, imageRecord}
@@ -52,7 +52,7 @@ module _ (m k : ℕ) (r : List ℕ) (size : length r ≡ 360) where
   unfolding pointerTests numbersTests placeOf
   pointer-is = (
     λ h.
-        let first : numberAt r 109 I8 ≡ 720 = let b = number-holds (at r 109 I8) (placeOf 109) 720 720 (h .1 .1 .1) in omega arith in
+        let first : numberAt r 109 I8 ≡ 720 = let b = number-holds (at r 109 I8) (placeOf 109) (lastOf 109 I8) 720 720 (h .1 .1 .1) in omega arith in
         record {
           class = class-text .0 (h .0);
           counted = (numberAt r 101 I8, number-is r 101 I8 (omega arith) refl 1 99999999 (numberAt r 101 I8) .0 ((h .1 .0, (h .1 .1 .0, tt)), refl));

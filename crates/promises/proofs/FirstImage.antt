@@ -15,7 +15,7 @@ use Rattle.plan.specs.Plan.{firstCodes}
 use Rattle.plan.specs.declared.Plan.{Plan}
 use mathlib.Core.Bool.{true}
 use Rattle.verdicts.specs.Tests.{textAt}
-use Rattle.verdicts.specs.Numbers.{at, number, numberAt, rowTests, numbersTests}
+use Rattle.verdicts.specs.Numbers.{at, lastOf, number, numberAt, rowTests, numbersTests}
 use Rattle.image.specs.Image.{sortIn, imageNumbers, agreeTests, agreements, imageTests, imageRecord}
 use Rattle.bodies.specs.Bodies.{bodyOf, bodyTests}
 use Rattle.verdicts.specs.declared.Verdict.the-variants.{Fine}
@@ -52,8 +52,8 @@ module _ (q : Plan) (r : List ℕ) (size : length r ≡ 720) where
       let lines : numberAt r 181 I6 ≡ numberAt r 237 I8 = eqb-true _ _ (b .1 .0) in
       let paired : numberAt r 281 I8 ≡ g * numberAt r 249 I8 = eqb-true _ _ (b .1 .1 .0) ∙ ap (λ (i : ℕ). i * numberAt r 249 I8) same-group in
       let room : sortOf′ (sortIn r) .ahead + numberAt r 281 I8 + numberAt r 289 I4 ≤ numberAt r 187 I6 = leb-true _ _ (b .1 .1 .1 .0) in
-      let channels : numberAt r 233 I4 ≡ 1 = let c = number-holds (at r 233 I4) (placeOf 233) 1 1 (row 3 (omega arith)) in omega arith in
-      let group : numberAt r 225 I4 ≡ g = let c = number-holds (at r 225 I4) (placeOf 225) g g grouped in omega arith in
+      let channels : numberAt r 233 I4 ≡ 1 = let c = number-holds (at r 233 I4) (placeOf 233) (lastOf 233 I4) 1 1 (row 3 (omega arith)) in omega arith in
+      let group : numberAt r 225 I4 ≡ g = let c = number-holds (at r 225 I4) (placeOf 225) (lastOf 225 I4) g g grouped in omega arith in
       record {
         is = header-is 1 (firstCodes 3) 720 r size .0 e;
         ab = text-is r 12 (bytes "A ") (omega arith) .0 (h .0);

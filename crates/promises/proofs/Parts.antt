@@ -26,14 +26,14 @@ use Rattle.decimal.specs.declared.Shape.the-variants.{Whole}
 use Rattle.decimal.specs.declared.Written.{Written}
 use Rattle.decimal.specs.declared.Written.the-variants.{Number, Blank, Bad}
 use Rattle.decimal.proofs.Answer as answer
-use Rattle.fields.specs.Field.{fieldBytes, fromWritten}
+use Rattle.fields.specs.Field.{fieldBytes, badPlace, fromWritten}
 use Rattle.fields.specs.declared.Field.{Field}
 use Rattle.fields.proofs.Laws as laws
 use Rattle.plan.specs.Tables.{codes}
 use Rattle.plan.specs.declared.Codes.{Codes}
 use Rattle.plan.specs.declared.Slot.{Slot}
 use Rattle.verdicts.specs.Tests.{Test, textAt, readable?, numberTests, countTests, numberOf}
-use Rattle.verdicts.specs.Numbers.{at, numberAt}
+use Rattle.verdicts.specs.Numbers.{at, lastOf, numberAt}
 use Rattle.leader.specs.Leader.{countAt, lengthAt, slotTests}
 use Rattle.leader.specs.declared.Pair as declared
 use Rattle.verdicts.specs.declared.Verdict.the-variants.{Fine}
@@ -163,24 +163,28 @@ no-exponent (whole w) q m e z = cc
 no-exponent (fixed w) q m e z = cc
 no-exponent (expo w g ds n l) q m e z = cc
 
+-- the field at a byte as what is written there: badly written is 6 at its first bad byte
+abbrev pub reading : List ℕ → ℕ → Form → Written → Field
+reading r byte k w = fromWritten (badPlace r (placeOf byte) k) w
+
 module _ (r : List ℕ) (byte : ℕ) (k : Form) (here : placeOf byte + widthOf k ≤ length r) where
-  told : at r byte k ≡ fromWritten (placeOf byte) (written k (fieldBytes r (placeOf byte) k))
+  told : at r byte k ≡ reading r byte k (written k (fieldBytes r (placeOf byte) k))
   told = laws.whole r (placeOf byte) k here
 
   -- what is well written is what is read
-  pub field-reads : (w : Written) → Says r byte k w → at r byte k ≡ fromWritten (placeOf byte) w
-  field-reads w f = told ∙ ap (fromWritten (placeOf byte)) (answer.reads k (fieldBytes r (placeOf byte) k) w f)
+  pub field-reads : (w : Written) → Says r byte k w → at r byte k ≡ reading r byte k w
+  field-reads w f = told ∙ ap (reading r byte k) (answer.reads k (fieldBytes r (placeOf byte) k) w f)
 
   -- a property of a field, shown of each answer that the grammar allows, and where it allows none
-  pub by-means : (P : Field → Type 0) → ((w : Written) → Says r byte k w → P (fromWritten (placeOf byte) w))
-      → (((w : Written) → Says r byte k w → ⊥) → P (fromWritten (placeOf byte) Bad)) → P (at r byte k)
+  pub by-means : (P : Field → Type 0) → ((w : Written) → Says r byte k w → P (reading r byte k w))
+      → (((w : Written) → Says r byte k w → ⊥) → P (reading r byte k Bad)) → P (at r byte k)
   by-means P g b = subst P (sym told) (go (written k (fieldBytes r (placeOf byte) k)) (answer.says k (fieldBytes r (placeOf byte) k)))
     where
-      go : (w : Written) → grammar.Means k (fieldBytes r (placeOf byte) k) w → P (fromWritten (placeOf byte) w)
+      go : (w : Written) → grammar.Means k (fieldBytes r (placeOf byte) k) w → P (reading r byte k w)
       go w (well f) = g w f
       go w (badly n) = b n
 
-  by-says : (P : Field → Type 0) → ((w : Written) → Says r byte k w → P (fromWritten (placeOf byte) w)) → P (fromWritten (placeOf byte) Bad) → P (at r byte k)
+  by-says : (P : Field → Type 0) → ((w : Written) → Says r byte k w → P (reading r byte k w)) → P (reading r byte k Bad) → P (at r byte k)
   by-says P g b = by-means P g (λ n. b)
 
   readable-to : readable? (at r byte k) ≡ true → Readable r byte k
@@ -196,8 +200,8 @@ module _ (r : List ℕ) (byte : ℕ) (k : Form) (here : placeOf byte + widthOf k
   readable-is = (readable-to, readable-from)
 
   module _ (plain : shapeOf k ≡ Whole) (lo hi : ℕ) where
-    number-well : (w : Written) → Says r byte k w → Holds (numberTests (fromWritten (placeOf byte) w) (placeOf byte) lo hi)
-        → Numbered r byte k lo hi (numberOf (fromWritten (placeOf byte) w))
+    number-well : (w : Written) → Says r byte k w → Holds (numberTests (reading r byte k w) (placeOf byte) (lastOf byte k) lo hi)
+        → Numbered r byte k lo hi (numberOf (reading r byte k w))
     number-well (Number (pos n) e) f h =
         let b = within-true lo n hi (h .1 .0) in
         record {
@@ -209,22 +213,22 @@ module _ (r : List ℕ) (byte : ℕ) (k : Form) (here : placeOf byte + widthOf k
     number-well Blank f h = absurd (false≢true (h .0))
     number-well Bad f h = absurd (false≢true (h .0))
 
-    number-to : Holds (numberTests (at r byte k) (placeOf byte) lo hi) → Numbered r byte k lo hi (numberAt r byte k)
+    number-to : Holds (numberTests (at r byte k) (placeOf byte) (lastOf byte k) lo hi) → Numbered r byte k lo hi (numberAt r byte k)
     number-to =
-        by-says (λ (f : Field). Holds (numberTests f (placeOf byte) lo hi) → Numbered r byte k lo hi (numberOf f)) number-well
+        by-says (λ (f : Field). Holds (numberTests f (placeOf byte) (lastOf byte k) lo hi) → Numbered r byte k lo hi (numberOf f)) number-well
         (λ h. absurd (false≢true (h .0)))
 
     -- the number that is written
     pub number-reads : (n : ℕ) → Numbered r byte k lo hi n → numberAt r byte k ≡ n
     number-reads n q = ap numberOf (field-reads (Number (pos n) (pos 0)) (q .says))
 
-    number-from : (n : ℕ) → Numbered r byte k lo hi n → Holds (numberTests (at r byte k) (placeOf byte) lo hi)
+    number-from : (n : ℕ) → Numbered r byte k lo hi n → Holds (numberTests (at r byte k) (placeOf byte) (lastOf byte k) lo hi)
     number-from n q =
-        subst (λ (f : Field). Holds (numberTests f (placeOf byte) lo hi)) (sym (field-reads (Number (pos n) (pos 0)) (q .says)))
+        subst (λ (f : Field). Holds (numberTests f (placeOf byte) (lastOf byte k) lo hi)) (sym (field-reads (Number (pos n) (pos 0)) (q .says)))
         (refl, (true-within lo n hi (q .least) (q .most), tt))
 
     -- a number field without a fault says a number of its range, the one that is read
-    pub number-is : (n : ℕ) → (Holds (numberTests (at r byte k) (placeOf byte) lo hi) × (numberAt r byte k ≡ n)) ↔ Numbered r byte k lo hi n
+    pub number-is : (n : ℕ) → (Holds (numberTests (at r byte k) (placeOf byte) (lastOf byte k) lo hi) × (numberAt r byte k ≡ n)) ↔ Numbered r byte k lo hi n
     number-is n = (λ h. subst (Numbered r byte k lo hi) (h .1) (number-to (h .0)), λ q. (number-from n q, number-reads n q))
 
 -- ---- a leader's pairs of count and length
@@ -237,8 +241,8 @@ module _ (r : List ℕ) (x : declared.Pair) (s : Slot) (here : placeOf (x .byte)
   abbrev counting : Field → List Test
   counting f = countTests f (placeOf (x .byte)) (s .least) (s .most)
 
-  count-well : (w : Written) → Says r (x .byte) I6 w → Holds (counting (fromWritten (placeOf (x .byte)) w))
-      → Counted (numberOf (fromWritten (placeOf (x .byte)) w))
+  count-well : (w : Written) → Says r (x .byte) I6 w → Holds (counting (reading r (x .byte) I6 w))
+      → Counted (numberOf (reading r (x .byte) I6 w))
   count-well (Number (pos n) e) f h =
       let b = within-true (s .least) n (s .most) (h .1 .0) in
       inr (record {
@@ -259,7 +263,7 @@ module _ (r : List ℕ) (x : declared.Pair) (s : Slot) (here : placeOf (x .byte)
     PairOf = Pair r (x .byte) (x .form) (s .least) (s .most) (s .shortest) (s .longest)
 
     abbrev measuring : List Test
-    measuring = numberTests (at r (x .byte + 6) (x .form)) (placeOf (x .byte + 6)) (s .shortest) (s .longest)
+    measuring = numberTests (at r (x .byte + 6) (x .form)) (placeOf (x .byte + 6)) (lastOf (x .byte + 6) (x .form)) (s .shortest) (s .longest)
 
     abbrev Measured : ℕ → Type 0
     Measured = Numbered r (x .byte + 6) (x .form) (s .shortest) (s .longest)
@@ -279,12 +283,12 @@ module _ (r : List ℕ) (x : declared.Pair) (s : Slot) (here : placeOf (x .byte)
         (number-is r (x .byte + 6) (x .form) there plain (s .shortest) (s .longest) (numberAt r (x .byte + 6) (x .form)) .0
         (subst (λ (t : Bool). Holds (pick t [] measuring)) (ne-eqb (countAt r x) 0 z) (b .1), refl)))
 
-    count-reads : (w : Written) → Says r (x .byte) I6 w → countAt r x ≡ numberOf (fromWritten (placeOf (x .byte)) w)
+    count-reads : (w : Written) → Says r (x .byte) I6 w → countAt r x ≡ numberOf (reading r (x .byte) I6 w)
     unfolding countAt
     count-reads w f = ap numberOf (field-reads r (x .byte) I6 here w f)
 
     -- a pair without a fault, by its count
-    made : (w : Written) → Says r (x .byte) I6 w → Holds (counting (fromWritten (placeOf (x .byte)) w)) → ((countAt r x ≡ 0 → ⊥) → Holds measuring)
+    made : (w : Written) → Says r (x .byte) I6 w → Holds (counting (reading r (x .byte) I6 w)) → ((countAt r x ≡ 0 → ⊥) → Holds measuring)
         → Holds (slotTests r x s)
     made w f h m =
         holds-join (counting (at r (x .byte) I6)) (pick (eqb (countAt r x) 0) [] measuring)

@@ -12,6 +12,7 @@ use Rattle.decimal.specs.Text.{bytes}
 use Rattle.digits.specs.Segments.{mantissaOf, exponentOf}
 use Rattle.decimal.specs.Scan.{written, decimalOf, numberIn}
 use Rattle.decimal.specs.Examples as decimal-examples
+use Rattle.bad_byte.specs.Columns.{badIn, badFrom}
 use Rattle.fields.specs.Field.{fieldAt, fieldAs}
 use Rattle.plan.specs.Tables.{slotOf, otherCodes, sortOf}
 use Rattle.plan.specs.Plan.{totalOf, sumOf, runCounts, runLengths, firstLength, spotOf, spotFrom, codesOf, allZero, zeroPlan?, planGood, imageGood, firstCodes}
@@ -94,7 +95,7 @@ due =
     ∷ valued (negsuc 99999999999998) (pos 0)
     ∷ valued (pos 999999999999999) (pos 0)
     ∷ bare blank
-    ∷ refusing 6 0 0
+    ∷ refusing 6 0 6
     ∷ valued (pos 0) (pos 0)
     ∷ valued (pos 10000000000000) (pos 2)
     ∷ [])
@@ -107,8 +108,8 @@ due =
     ∷ [])
 
 pub p-table : answers ≡ due
-unfolding written decimalOf numberIn mantissaOf exponentOf twoAt fourAt placeOf fieldAt slotOf otherCodes sortOf totalOf sumOf runCounts runLengths
-    firstLength spotOf spotFrom codesOf firstCodes allZero zeroPlan? planGood imageGood volumeGood leaderGood slotsGood firstFault textAt bodyOf bodyTests
-    imageRecord imageTests numbersTests agreeTests lineTests volumeRecord leaderRecord trailerTests planOf goodState walkOf judgeOf headerOf
+unfolding badIn badFrom written decimalOf numberIn mantissaOf exponentOf twoAt fourAt placeOf fieldAt slotOf otherCodes sortOf totalOf sumOf runCounts
+    runLengths firstLength spotOf spotFrom codesOf firstCodes allZero zeroPlan? planGood imageGood volumeGood leaderGood slotsGood firstFault textAt bodyOf
+    bodyTests imageRecord imageTests numbersTests agreeTests lineTests volumeRecord leaderRecord trailerTests planOf goodState walkOf judgeOf headerOf
     headerTests codesAre endedOf shortOf nextOf badStop
 p-table = refl

@@ -18,7 +18,8 @@ use Rattle.decimal.specs.Forms.{widthOf}
 use Rattle.decimal.specs.declared.Written.{Written}
 use Rattle.decimal.specs.declared.Written.the-variants.{Number, Blank, Bad}
 use Rattle.decimal.proofs.Answer as answer
-use Rattle.fields.specs.Field.{refuse, fieldAt, fromWritten, fieldAs}
+use Rattle.fields.specs.Field.{refuse, badPlace, fieldAt, fieldAs}
+use Rattle.fields.proofs.Named.{bad-here, six-here}
 use Rattle.fields.specs.Listed.{listedField}
 use Rattle.fields.specs.declared.Field.{Field}
 use Rattle.fields.specs.declared.Field.the-variants as field
@@ -40,7 +41,7 @@ use Rattle.copies.specs.Said.{copiedAs}
 use Rattle.copies.specs.declared.Copied.the-variants as copied
 use Rattle.promises.specs.Newest.{Says}
 use Rattle.promises.specs.Shown.{lineRecord, dataCount}
-use Rattle.promises.proofs.Parts.{by-means}
+use Rattle.promises.proofs.Parts.{reading, by-means}
 use Rattle.promises.proofs.Turns as turns
 use Rattle.promises.proofs.Counted.{bad-kept}
 use Rattle.promises.proofs.Eleven.{eleven}
@@ -146,9 +147,9 @@ module _ (b : List ℕ) (n : ℕ) (x : Refusal) where
           → FieldRefuses b n x
       there h a c =
           by-means b (byteOf n) (formOf n) h (λ (f : Field). f ≡ field.Refused x → FieldRefuses b n x) well
-          (λ none q. badly a c h (λ r. none (r .0) (r .1)) (refuse-same 6 (placeOf (byteOf n)) q))
+          (λ none q. badly a c h _ (bad-here b (placeOf (byteOf n)) (formOf n) h none) (refuse-same 6 (badPlace b (placeOf (byteOf n)) (formOf n)) q))
         where
-          well : (w : Written) → Says b (byteOf n) (formOf n) w → fromWritten (placeOf (byteOf n)) w ≡ field.Refused x → FieldRefuses b n x
+          well : (w : Written) → Says b (byteOf n) (formOf n) w → reading b (byteOf n) (formOf n) w ≡ field.Refused x → FieldRefuses b n x
           well (Number v e) s q = absurd (let z : _≡_ {A = ℕ} 0 1 = cc in omega arith)
           well Blank s q = absurd (let z : _≡_ {A = ℕ} 0 1 = cc in omega arith)
           well Bad s q = absurd (answer.never (s .1) refl)
@@ -172,10 +173,8 @@ module _ (b : List ℕ) (n : ℕ) (x : Refusal) where
       out false q = q
   field-from (short a c h e) =
       laws.inside b n (true-within 1 n 13 a c) ∙ laws.short b (placeOf (byteOf n)) (formOf n) h ∙ ap field.Refused (sym e)
-  field-from (badly a c h r e) =
-      laws.inside b n (true-within 1 n 13 a c)
-      ∙ by-means b (byteOf n) (formOf n) h (λ (f : Field). f ≡ refuse 6 (placeOf (byteOf n))) (λ w s. absurd (r (w, s))) (λ none. refl)
-      ∙ ap field.Refused (sym e)
+  field-from (badly a c h i z e) =
+      laws.inside b n (true-within 1 n 13 a c) ∙ six-here b (placeOf (byteOf n)) (formOf n) h i z ∙ ap field.Refused (sym e)
 
 pub field-exactly : (b : List ℕ) (n : ℕ) (x : Refusal) → (fieldAs (listedField b n) ≡ refusedAs x) ↔ FieldRefuses b n x
 field-exactly b n x = (λ e. field-to b n x (said.field-refused _ x e), λ y. ap fieldAs (field-from b n x y))

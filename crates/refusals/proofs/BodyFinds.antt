@@ -223,19 +223,19 @@ module _ (r : List ℕ) (long : length r ≡ 720) where
         let rw′ = reads 249 I8 (omega arith) hw in
         let rd = reads 281 I8 (omega arith) hd in
         let rs = reads 289 I4 (omega arith) hs in
-        exact (eqb (numberAt r 181 I6) (numberAt r 237 I8)) _ (agreement ((n : ℕ) × SaysNumber r 181 I6 n × SaysNumber r 237 I8 n)) _
+        exact (eqb (numberAt r 181 I6) (numberAt r 237 I8)) _ (agreement ((n : ℕ) × SaysNumber r 181 I6 n × SaysNumber r 237 I8 n)) _ _ refl
         (λ e. (n, hn, subst (SaysNumber r 237 I8) (sym rm ∙ sym (eqb-true _ _ e) ∙ rn) hm))
         (λ h. eq-eqb _ _ (reads 181 I6 (omega arith) (h .1) ∙ sym (reads 237 I8 (omega arith) (h .2))))
         (λ e.
         exact (eqb (numberAt r 281 I8) (g * numberAt r 249 I8)) _
-        (agreement ((i : ℕ) × (w : ℕ) × SortIs r i × SaysNumber r 249 I8 w × SaysNumber r 281 I8 (sortOf i .group * w))) _
+        (agreement ((i : ℕ) × (w : ℕ) × SortIs r i × SaysNumber r 249 I8 w × SaysNumber r 281 I8 (sortOf i .group * w))) _ _ refl
         (λ e. (j, w, has, hw, subst (SaysNumber r 281 I8) (sym rd ∙ eqb-true _ _ e ∙ ap₂ (λ (i x : ℕ). i * x) (group-of j has) rw′) hd))
         (λ (i, x, si, hx, hy). eq-eqb _ _ (reads 281 I8 (omega arith) hy ∙ ap₂ (λ (i x : ℕ). i * x) (sym (group-of i si))
         (sym (reads 249 I8 (omega arith) hx))))
         (λ e.
         exact (leb (ahead + numberAt r 281 I8 + numberAt r 289 I4) (numberAt r 187 I6)) _
         (agreement ((i : ℕ) × (l : ℕ) × (d : ℕ) × (s : ℕ) × SortIs r i × SaysNumber r 187 I6 l × SaysNumber r 281 I8 d × SaysNumber r 289 I4 s
-        × (sortOf i .ahead + d + s ≤ l))) _
+        × (sortOf i .ahead + d + s ≤ l))) _ _ refl
         (λ e.
         let h = leb-true (ahead + numberAt r 281 I8 + numberAt r 289 I4) (numberAt r 187 I6) e in
         (j, l, d, s, has, hl, hd, hs, omega (arith, rl, rd, rs, ahead-of j has, h)))
@@ -258,7 +258,7 @@ module _ (r : List ℕ) (long : length r ≡ 720) where
     numbers-alike =
         let behind : Alike (fieldsAs r (((n : ℕ) × Numbered r 225 I4 g g n))) (fieldsAs r sortedGroup) =
         ((group-alike, refl, refl), alike-self (laterFields r)) in
-        alike-behind (number r 181 I6 1 999999 ++ (number r 187 I6 1 999999 ++ (rules.rule 6 225 (rules.SomeNumber r 225 I4) ∷ [])))
+        alike-behind (number r 181 I6 1 999999 ++ (number r 187 I6 1 999999 ++ (rules.unread r 225 I4 (rules.SomeNumber r 225 I4) ∷ [])))
         (fieldsAs r ((n : ℕ) × Numbered r 225 I4 g g n)) (fieldsAs r sortedGroup) behind
 
     fields-find : Finds (firstFault (numbersTests r (imageNumbers (sortIn r)) ++ agreements r)) (imageFields r ++ rules.agreements r)
@@ -283,7 +283,7 @@ module _ (r : List ℕ) (long : length r ≡ 720) where
   image-finds =
       text-finds r 13 "A " _ _ (omega arith)
       (λ e.
-      exact (textAt r 428 (sortOf′ (sortIn r) .text)) _ (rules.rule 8 429 ((i : ℕ) × SortIs r i)) _ (λ e. (sortIn r, sort-to e)) sort-from
+      exact (textAt r 428 (sortOf′ (sortIn r) .text)) _ (rules.rule 8 429 ((i : ℕ) × SortIs r i)) _ _ refl (λ e. (sortIn r, sort-to e)) sort-from
       (λ e. fields-find (sort-to e)))
 
 -- ---- the records behind the first
@@ -292,7 +292,7 @@ pointer-finds : (m k : ℕ) (r : List ℕ) → length r ≡ 360 → Finds (first
 unfolding pointerTests firstFault placeOf numbered? inside? whole?
 pointer-finds m k r long =
     let c = class-text m k r long in
-    exact (textAt r 64 (classText m k)) _ (rules.text r 65 (classOf m k)) _ (c .0) (c .1) (λ e. numbers-find r 360 long pointerNumbers refl)
+    exact (textAt r 64 (classText m k)) _ (rules.text r 65 (classOf m k)) _ _ refl (c .0) (c .1) (λ e. numbers-find r 360 long pointerNumbers refl)
 
 summary-finds : (k : ℕ) (r : List ℕ) → length r ≡ 4096 → Finds (firstFault (fieldsTests r 0 10)) (summaryBody k r)
 unfolding fieldsTests listed? inside? placeOf
@@ -305,12 +305,12 @@ map-finds k r long = listed-find r 1620 long (slice 10 13 table) refl
 line-finds : (w k : ℕ) (r : List ℕ) → Finds (firstFault (lineTests w k r)) (lineBody w k r)
 unfolding lineTests firstFault
 line-finds w k r =
-    exact (eqb (fourAt r (placeOf 13)) k) _ (rules.rule 10 13 (fourAt r (placeOf 13) ≡ k)) _ (eqb-true _ _) (eq-eqb _ _)
+    exact (eqb (fourAt r (placeOf 13)) k) _ (rules.rule 10 13 (fourAt r (placeOf 13) ≡ k)) _ _ refl (eqb-true _ _) (eq-eqb _ _)
     (λ e.
-    exact (eqb (fourAt r (placeOf 17)) 1) _ (rules.rule 10 17 (fourAt r (placeOf 17) ≡ 1)) _ (eqb-true _ _) (eq-eqb _ _)
+    exact (eqb (fourAt r (placeOf 17)) 1) _ (rules.rule 10 17 (fourAt r (placeOf 17) ≡ 1)) _ _ refl (eqb-true _ _) (eq-eqb _ _)
     (λ e.
     exact (eqb (fourAt r (placeOf 21) + fourAt r (placeOf 25) + fourAt r (placeOf 29)) w) _
-    (rules.rule 10 21 (fourAt r (placeOf 21) + fourAt r (placeOf 25) + fourAt r (placeOf 29) ≡ w)) _ (eqb-true _ _) (eq-eqb _ _) (λ e. finds-none)))
+    (rules.rule 10 21 (fourAt r (placeOf 21) + fourAt r (placeOf 25) + fourAt r (placeOf 29) ≡ w)) _ _ refl (eqb-true _ _) (eq-eqb _ _) (λ e. finds-none)))
 
 -- ---- each kind and run
 

@@ -10,7 +10,25 @@ use Rattle.words.specs.Words.{placeOf}
 use Rattle.verdicts.specs.Tests.{Test, firstFault, andThen, each}
 use Rattle.verdicts.specs.declared.Verdict.{Verdict}
 use Rattle.verdicts.specs.declared.Verdict.the-variants.{Fine, Fault}
-use Rattle.refusals.specs.Refusals.{Rule, AllHold, FirstWrong}
+use Rattle.decimal.specs.Forms.{widthOf, shapeOf}
+use Rattle.decimal.specs.declared.Form.{Form}
+use Rattle.bad_byte.specs.BadByte.{BadAt, PointsAt, bad, empty}
+use Rattle.bad_byte.proofs.Named.{bad-one, bad-never}
+use Rattle.fields.specs.Field.{fieldBytes}
+use Rattle.refusals.specs.Refusals.{Mark, atByte, inField, Points, Rule, AllHold, FirstWrong}
+
+-- ---- a mark points at one place
+
+points-at-once : (k : Form) (bs : List ℕ) (i j : ℕ) → PointsAt k bs i → PointsAt k bs j → i ≡ j
+points-at-once k bs i j (bad x) (bad y) = bad-one (shapeOf k) (widthOf k) bs i j x y
+points-at-once k bs i j (bad x) (empty w e) = absurd (bad-never (shapeOf k) bs i (w .1) (subst (λ (n : ℕ). BadAt (shapeOf k) n bs i) (sym (w .0)) x))
+points-at-once k bs i j (empty w e) (bad y) = absurd (bad-never (shapeOf k) bs j (w .1) (subst (λ (n : ℕ). BadAt (shapeOf k) n bs j) (sym (w .0)) y))
+points-at-once k bs i j (empty w e) (empty v f) = omega (arith, e, f)
+
+points-once : (x : Mark) (q q′ : ℕ) → Points x q → Points x q′ → q ≡ q′
+points-once (atByte b) q q′ e f = e ∙ sym f
+points-once (inField r b k) q q′ (i, e, x) (j, f, y) =
+    e ∙ ap (λ (n : ℕ). placeOf b + n) (points-at-once k (fieldBytes r (placeOf b) k) i j x y) ∙ sym f
 
 -- ---- a list of rules leaves one first thing wrong
 
@@ -23,7 +41,7 @@ hold-wrong (x ∷ xs) m q h (inr w) = hold-wrong xs m q (h .1) (w .1)
 -- and only one is the first
 wrong-once : (xs : List Rule) (m q m′ q′ : ℕ) → FirstWrong xs m q → FirstWrong xs m′ q′ → (m ≡ m′) × (q ≡ q′)
 wrong-once [] m q m′ q′ w v = absurd w
-wrong-once (x ∷ xs) m q m′ q′ (inl w) (inl v) = (w .1 ∙ sym (v .1), w .2 ∙ sym (v .2))
+wrong-once (x ∷ xs) m q m′ q′ (inl w) (inl v) = (w .1 ∙ sym (v .1), points-once (x .mark) q q′ (w .2) (v .2))
 wrong-once (x ∷ xs) m q m′ q′ (inl w) (inr v) = absurd (w .0 (v .0))
 wrong-once (x ∷ xs) m q m′ q′ (inr w) (inl v) = absurd (v .0 (w .0))
 wrong-once (x ∷ xs) m q m′ q′ (inr w) (inr v) = wrong-once xs m q m′ q′ (w .1) (v .1)
@@ -87,14 +105,14 @@ first-then (t ∷ ts) us = go (t .holds) (first-then ts us)
 
 -- one test beside one rule, and what follows where it holds
 pub finds-test : (b : Bool) (n at : ℕ) (v : Verdict) (x : Rule) (xs : List Rule) → (b ≡ true → x .Holds)
-    → (b ≡ false → (x .Holds → ⊥) × (n ≡ x .number) × (at ≡ placeOf (x .byte))) → (b ≡ true → Finds v xs) → Finds (pick b v (Fault n at)) (x ∷ xs)
+    → (b ≡ false → (x .Holds → ⊥) × (n ≡ x .number) × Points (x .mark) at) → (b ≡ true → Finds v xs) → Finds (pick b v (Fault n at)) (x ∷ xs)
 finds-test true n at v x xs h w f =
     record { fine = λ e. (h refl, f refl .fine e); fault = λ m q e. inr (h refl, f refl .fault m q e) }
 finds-test false n at v x xs h w f =
     let b = w refl in
     record {
       fine = λ e. absurd (fine≢fault n at (sym e));
-      fault = λ m q e. inl (b .0, (let z : m ≡ n = cc in z) ∙ b .1, (let z : q ≡ at = cc in z) ∙ b .2);
+      fault = λ m q e. inl (b .0, (let z : m ≡ n = cc in z) ∙ b .1, subst (Points (x .mark)) (sym (let z : q ≡ at = cc in z)) (b .2));
     }
 
 -- the tests of each of several things, one thing after the other, beside the rules of each
@@ -121,7 +139,7 @@ abbrev pub Alike : List Rule → List Rule → Type 0
 Alike [] [] = Unit {0}
 Alike [] (y ∷ ys) = ⊥
 Alike (x ∷ xs) [] = ⊥
-Alike (x ∷ xs) (y ∷ ys) = ((x .Holds ↔ y .Holds) × (x .number ≡ y .number) × (x .byte ≡ y .byte)) × Alike xs ys
+Alike (x ∷ xs) (y ∷ ys) = ((x .Holds ↔ y .Holds) × (x .number ≡ y .number) × (x .mark ≡ y .mark)) × Alike xs ys
 
 pub alike-self : (xs : List Rule) → Alike xs xs
 alike-self [] = tt
@@ -142,7 +160,7 @@ alike-wrong : (xs ys : List Rule) (m q : ℕ) → Alike xs ys → FirstWrong xs 
 alike-wrong [] [] m q a w = w
 alike-wrong [] (y ∷ ys) m q a w = absurd a
 alike-wrong (x ∷ xs) [] m q a w = absurd a
-alike-wrong (x ∷ xs) (y ∷ ys) m q a (inl w) = inl (λ h. w .0 (a .0 .0 .1 h), w .1 ∙ a .0 .1, w .2 ∙ ap placeOf (a .0 .2))
+alike-wrong (x ∷ xs) (y ∷ ys) m q a (inl w) = inl (λ h. w .0 (a .0 .0 .1 h), w .1 ∙ a .0 .1, subst (λ (z : Mark). Points z q) (a .0 .2) (w .2))
 alike-wrong (x ∷ xs) (y ∷ ys) m q a (inr w) = inr (a .0 .0 .0 (w .0), alike-wrong xs ys m q (a .1) (w .1))
 
 pub finds-alike : {v : Verdict} (xs ys : List Rule) → Alike xs ys → Finds v xs → Finds v ys

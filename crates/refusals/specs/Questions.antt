@@ -9,14 +9,16 @@ use lib.ListN.{length, take, getD}
 use Rattle.words.specs.Answer.{bareRefusal, refusalAt}
 use Rattle.words.specs.Words.{placeOf}
 use Rattle.words.specs.declared.Refusal.{Refusal}
-use Rattle.decimal.specs.Forms.{widthOf}
+use Rattle.decimal.specs.Forms.{widthOf, shapeOf}
 use Rattle.decimal.specs.declared.Form.{Form}
 use Rattle.decimal.specs.declared.Form.the-variants.{I8}
+use Rattle.bad_byte.specs.BadByte.{BadAt}
+use Rattle.fields.specs.Field.{fieldBytes}
 use Rattle.fields.specs.Listed.{listed}
 use Rattle.plan.specs.declared.Plan.{Plan}
 use Rattle.walk.specs.declared.State.{State}
 use Rattle.promises.specs.Rules.{volume, image}
-use Rattle.promises.specs.Newest.{Numbered, Readable, ImageDescriptor, Accepted}
+use Rattle.promises.specs.Newest.{Numbered, ImageDescriptor, Accepted}
 use Rattle.promises.specs.Shown.{lineStart, lineRecord, Stands, dataCount}
 use Rattle.first_records.specs.StateRule.{AllowedState}
 use Rattle.refusals.specs.Refusals.{Rule, FirstWrong, header, lineBody, lineAsked, firstAsked, Wrong, Refuses}
@@ -80,6 +82,7 @@ pub data FieldRefuses (b : List ℕ) (n : ℕ) (x : Refusal) : Type 0 where
   unlisted : ((1 ≤ n) × (n ≤ 13) → ⊥) → x ≡ bareRefusal 14 → FieldRefuses b n x
   -- 2: the bytes end before the field does
   short : 1 ≤ n → n ≤ 13 → length b < placeOf (byteOf n) + widthOf (formOf n) → x ≡ bareRefusal 2 → FieldRefuses b n x
-  -- 6 at the field's first byte: it is neither a value nor blank
-  badly : 1 ≤ n → n ≤ 13 → placeOf (byteOf n) + widthOf (formOf n) ≤ length b → (Readable b (byteOf n) (formOf n) → ⊥)
-      → x ≡ refusalAt 6 (placeOf (byteOf n)) → FieldRefuses b n x
+  -- 6 at its first bad byte: it is neither a value nor blank
+  badly : 1 ≤ n → n ≤ 13 → placeOf (byteOf n) + widthOf (formOf n) ≤ length b → (i : ℕ)
+      → BadAt (shapeOf (formOf n)) (widthOf (formOf n)) (fieldBytes b (placeOf (byteOf n)) (formOf n)) i
+      → x ≡ refusalAt 6 (placeOf (byteOf n) + i) → FieldRefuses b n x

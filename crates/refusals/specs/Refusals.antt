@@ -14,6 +14,8 @@ use Rattle.words.specs.declared.Refusal.{Refusal}
 use Rattle.decimal.specs.declared.Form.{Form}
 use Rattle.decimal.specs.declared.Form.the-variants.{I4, I6, I8, I16, F8d3, F16d7, E20d13}
 use Rattle.decimal.specs.declared.Written.the-variants.{Number, Blank}
+use Rattle.bad_byte.specs.BadByte.{PointsAt}
+use Rattle.fields.specs.Field.{fieldBytes}
 use Rattle.plan.specs.declared.Plan.{Plan}
 use Rattle.promises.specs.Edition.{newest}
 use Rattle.promises.specs.Rules.{Kind, volume, leader, image, trailer, Text, Coded, Is, Any, Follow, concat, classOf, sortOf}
@@ -21,14 +23,28 @@ use Rattle.promises.specs.Newest.{Says, Numbered, Readable, First, promised}
 
 -- ==== a rule and its refusal
 
--- what must hold; and where it does not, the refusal's number and the byte of the record that it points at
+-- what a refusal points at: a byte of the record; a number field, in which it points at the byte where it goes wrong
+pub data Mark : Type 0 where
+  atByte : ℕ → Mark
+  inField : List ℕ → ℕ → Form → Mark
+
+-- at which place of the record that is
+abbrev pub Points : Mark → ℕ → Type 0
+Points (atByte b) q = q ≡ placeOf b
+Points (inField r b k) q = (i : ℕ) × (q ≡ placeOf b + i) × PointsAt k (fieldBytes r (placeOf b) k) i
+
+-- what must hold; and where it does not, the refusal's number and what it points at
 pub record Rule : Type 1 where
   pub number : ℕ
-  pub byte : ℕ
+  pub mark : Mark
   pub Holds : Type 0
 
 abbrev pub rule : ℕ → ℕ → Type 0 → Rule
-rule m byte H = record { number = m; byte = byte; Holds = H }
+rule m b H = record { number = m; mark = atByte b; Holds = H }
+
+-- 6: a number field is badly written, or blank where a number is needed (document 02, No. 5)
+abbrev pub unread : List ℕ → ℕ → Form → Type 0 → Rule
+unread r b k H = record { number = 6; mark = inField r b k; Holds = H }
 
 -- every rule holds
 abbrev pub AllHold : List Rule → Type 0
@@ -38,7 +54,7 @@ AllHold (x ∷ xs) = x .Holds × AllHold xs
 -- m at place q of the record is the first thing wrong: that rule is broken, and those before it hold
 abbrev pub FirstWrong : List Rule → ℕ → ℕ → Type 0
 FirstWrong [] m q = ⊥
-FirstWrong (x ∷ xs) m q = ((x .Holds → ⊥) × (m ≡ x .number) × (q ≡ placeOf (x .byte))) ⊎ (x .Holds × FirstWrong xs m q)
+FirstWrong (x ∷ xs) m q = ((x .Holds → ⊥) × (m ≡ x .number) × Points (x .mark) q) ⊎ (x .Holds × FirstWrong xs m q)
 
 -- ==== the parts of a record
 
@@ -61,13 +77,13 @@ SomeNumber r byte k = (v : ℤ) × (e : ℤ) × Says r byte k (Number v e)
 -- a number field: 6 where it is badly written or blank, then 7 outside its range, at its first byte
 abbrev pub number : List ℕ → ℕ → Form → ℕ → ℕ → List Rule
 number r byte k lo hi =
-    rule 6 byte (SomeNumber r byte k)
+    unread r byte k (SomeNumber r byte k)
     ∷ rule 7 byte ((n : ℕ) × Numbered r byte k lo hi n)
     ∷ []
 
 -- a listed field: 6 unless it is a value or blank
 abbrev pub listed : List ℕ → ℕ → Form → Rule
-listed r byte k = rule 6 byte (Readable r byte k)
+listed r byte k = unread r byte k (Readable r byte k)
 
 -- an agreement: 8 at the record's first byte
 abbrev pub agreement : Type 0 → Rule
@@ -84,9 +100,9 @@ Counts r byte n = (Says r byte I6 Blank × (n ≡ 0)) ⊎ SaysNumber r byte I6 n
 -- a leader's pair: the count's form and range, then its length's, six bytes on, which is not read where the count is 0
 abbrev pub pair : List ℕ → ℕ → Form → ℕ → ℕ → ℕ → ℕ → List Rule
 pair r byte k least most shortest longest =
-    rule 6 byte (Readable r byte I6)
+    unread r byte I6 (Readable r byte I6)
     ∷ rule 7 byte ((n : ℕ) × Counts r byte n × (least ≤ n) × (n ≤ most))
-    ∷ rule 6 (byte + 6) (Counts r byte 0 ⊎ SomeNumber r (byte + 6) k)
+    ∷ unread r (byte + 6) k (Counts r byte 0 ⊎ SomeNumber r (byte + 6) k)
     ∷ rule 7 (byte + 6) (Counts r byte 0 ⊎ ((n : ℕ) × Numbered r (byte + 6) k shortest longest n))
     ∷ []
 
@@ -120,7 +136,7 @@ pub record SortIs (r : List ℕ) (i : ℕ) : Type 0 where
 -- the bytes a group: 7 where they are not those of the sort
 abbrev pub group : List ℕ → List Rule
 group r =
-    rule 6 225 (SomeNumber r 225 I4)
+    unread r 225 I4 (SomeNumber r 225 I4)
     ∷ rule 7 225 ((i : ℕ) × SortIs r i × Numbered r 225 I4 (sortOf i .group) (sortOf i .group) (sortOf i .group))
     ∷ []
 

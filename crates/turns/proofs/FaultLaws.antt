@@ -20,7 +20,8 @@ use Rattle.decimal.specs.declared.Form.{Form}
 use Rattle.decimal.specs.declared.Form.the-variants.{I6}
 use Rattle.decimal.specs.declared.Written.{Written}
 use Rattle.decimal.specs.declared.Written.the-variants.{Number as Number′, Blank as Blank′, Bad}
-use Rattle.fields.specs.Field.{fieldAt, fieldBytes, fromWritten, refuse}
+use Rattle.fields.specs.Field.{fieldAt, fieldBytes, badPlace, fromWritten, refuse}
+use Rattle.fields.proofs.Laws.{bad-within}
 use Rattle.fields.specs.Listed.{table}
 use Rattle.fields.specs.declared.Listed.{Listed}
 use Rattle.plan.specs.Tables.{slotOf}
@@ -28,7 +29,7 @@ use Rattle.plan.specs.Plan.{volume, leader, image}
 use Rattle.plan.specs.declared.Codes.{Codes}
 use Rattle.plan.specs.declared.Plan.{Plan}
 use Rattle.verdicts.specs.Tests.{Test, firstFault, each, unreadNumber, unreadPlace, countTests, numberTests}
-use Rattle.verdicts.specs.Numbers.{Number, at, rowTests, numbersTests}
+use Rattle.verdicts.specs.Numbers.{Number, at, lastOf, rowTests, numbersTests}
 use Rattle.volume.specs.Volume.{volumeNumbers, pointerNumbers, volumeTests, pointerTests, volumeRecord}
 use Rattle.verdicts.specs.declared.Verdict.{Verdict}
 use Rattle.verdicts.specs.declared.Verdict.the-variants.{Fine, Fault}
@@ -97,30 +98,38 @@ module _ (need : ℕ) (r : List ℕ) where
     within : (byte : ℕ) (k : Form) → ends byte k ≡ true → placeOf byte ≤ 10000
     within byte k e = let h = leb-true (placeOf byte + widthOf k) need e in omega arith
 
-    -- a field's own refusal: 6 at its place, or 2 where the record ends before it does
-    field-can : (p : ℕ) (k : Form) → p + widthOf k ≤ need → Can need r (unreadNumber (fieldAt r p k)) (unreadPlace p (fieldAt r p k))
-    unfolding fieldAt
-    field-can p k h = go (ltb (length r) (p + widthOf k)) refl (written k (fieldBytes r p k))
-      where
-        six : p ≤ 10000
-        six = omega arith
+    -- a field's first bad byte is not far behind its first
+    bad-near : (p : ℕ) (k : Form) → p + widthOf k ≤ need → badPlace r p k ≤ 10000
+    bad-near p k h = omega (arith, bad-within r p k)
 
+    -- a field's own refusal: 6 at its first bad byte, or at that place where it is blank, or 2 where the record ends before it does
+    field-can : (p last : ℕ) (k : Form) → p + widthOf k ≤ need → last ≤ 10000 → Can need r (unreadNumber (fieldAt r p k)) (unreadPlace last (fieldAt r p k))
+    unfolding fieldAt
+    field-can p last k h l = go (ltb (length r) (p + widthOf k)) refl (written k (fieldBytes r p k))
+      where
         go : (b : Bool) → ltb (length r) (p + widthOf k) ≡ b → (w : Written)
-            → Can need r (unreadNumber (pick b (refuse 2 0) (fromWritten p w))) (unreadPlace p (pick b (refuse 2 0) (fromWritten p w)))
+            → Can need r (unreadNumber (pick b (refuse 2 0) (fromWritten (badPlace r p k) w)))
+            (unreadPlace last (pick b (refuse 2 0) (fromWritten (badPlace r p k) w)))
         go true e w = record { near = omega arith; low = omega arith; short = λ q. let l = ltb-true (length r) (p + widthOf k) e in omega arith }
-        go false e (Number′ m x) = other 6 p (omega arith) (omega arith) six
-        go false e Blank′ = other 6 p (omega arith) (omega arith) six
-        go false e Bad = other 6 p (omega arith) (omega arith) six
+        go false e (Number′ m x) = other 6 last (omega arith) (omega arith) l
+        go false e Blank′ = other 6 last (omega arith) (omega arith) l
+        go false e Bad = other 6 (badPlace r p k) (omega arith) (omega arith) (bad-near p k h)
 
     at-can : (byte : ℕ) (k : Form) → ends byte k ≡ true → Can need r (unreadNumber (at r byte k)) (unreadPlace (placeOf byte) (at r byte k))
-    at-can byte k e = field-can (placeOf byte) k (leb-true (placeOf byte + widthOf k) need e)
+    at-can byte k e = field-can (placeOf byte) (placeOf byte) k (leb-true (placeOf byte + widthOf k) need e) (within byte k e)
+
+    -- the same of a field that must be a number
+    needed-can : (byte : ℕ) (k : Form) → ends byte k ≡ true → Can need r (unreadNumber (at r byte k)) (unreadPlace (lastOf byte k) (at r byte k))
+    needed-can byte k e =
+        let h = leb-true (placeOf byte + widthOf k) need e in
+        field-can (placeOf byte) (lastOf byte k) k h (omega arith)
 
     range-can : (byte : ℕ) (k : Form) → ends byte k ≡ true → Can need r 7 (placeOf byte)
     range-can byte k e = other 7 (placeOf byte) (omega arith) (omega arith) (within byte k e)
 
     row-can : (x : Number) → ends (x .byte) (x .form) ≡ true → AllCan need r (rowTests r x)
     unfolding AllCan
-    row-can x e = (at-can (x .byte) (x .form) e, (range-can (x .byte) (x .form) e, tt))
+    row-can x e = (needed-can (x .byte) (x .form) e, (range-can (x .byte) (x .form) e, tt))
 
     listed-can : (x : Listed) → ends (x .first) (x .form) ≡ true → AllCan need r (listedTests r x)
     unfolding AllCan
@@ -132,11 +141,11 @@ module _ (need : ℕ) (r : List ℕ) where
         let a = both-l (ends (x .byte) I6) (ends (x .byte + 6) (x .form)) e in
         let b = both-r (ends (x .byte) I6) (ends (x .byte + 6) (x .form)) e in
         let s = slotOf (x .row) in
-        can-append (countTests (at r (x .byte) I6) (placeOf (x .byte)) (s .least) (s .most))
-        (pick (eqb (countAt r x) 0) [] (numberTests (at r (x .byte + 6) (x .form)) (placeOf (x .byte + 6)) (s .shortest) (s .longest)))
+        let ts = numberTests (at r (x .byte + 6) (x .form)) (placeOf (x .byte + 6)) (lastOf (x .byte + 6) (x .form)) (s .shortest) (s .longest) in
+        can-append (countTests (at r (x .byte) I6) (placeOf (x .byte)) (s .least) (s .most)) (pick (eqb (countAt r x) 0) [] ts)
         (at-can (x .byte) I6 a, (range-can (x .byte) I6 a, tt))
-        (go (eqb (countAt r x) 0) (numberTests (at r (x .byte + 6) (x .form)) (placeOf (x .byte + 6)) (s .shortest) (s .longest))
-        (at-can (x .byte + 6) (x .form) b, (range-can (x .byte + 6) (x .form) b, tt)))
+        (go (eqb (countAt r x) 0) ts
+        (needed-can (x .byte + 6) (x .form) b, (range-can (x .byte + 6) (x .form) b, tt)))
       where
         go : (c : Bool) (ts : List Test) → AllCan need r ts → AllCan need r (pick c [] ts)
         go true ts h = tt

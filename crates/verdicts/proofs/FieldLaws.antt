@@ -1,6 +1,6 @@
 -- What the tests of one number field say in each case of the field and of its sign, by computing them; and that a field handed on has the first fault of
 -- its tests.
-use Prim.Native.Nat.{ℕ}
+use Prim.Native.Nat.{ℕ, _≤_}
 use mathlib.Core.Path.{_≡_, refl, sym, ap, _∙_}
 use mathlib.Core.List.{[], _∷_}
 use mathlib.Core.Bool.{Bool, true, false, true≢false}
@@ -13,6 +13,9 @@ use types.Run.{OneOf}
 use denote.Enum.Declared.{tagOf}
 use Rattle.words.specs.Tests.{pick, withinOf}
 use Rattle.words.specs.declared.Refusal.{Refusal}
+use Rattle.decimal.specs.Forms.{widthOf}
+use Rattle.decimal.specs.declared.Form.{Form}
+use Rattle.decimal.specs.declared.Form.the-variants.{I4, I6, I8, I16, F8d3, F16d7, E20d13}
 use Rattle.fields.specs.Field.{refuse}
 use Rattle.fields.proofs.Field.{the-type}
 use Rattle.fields.specs.declared.Field.{Field}
@@ -90,34 +93,38 @@ range-none : (b : Bool) (v e : ℤ) (at : ℕ) → OneOf (1 ∷ 2 ∷ []) (tagOf
 range-none true v e at k = absurd (⊎-elim (λ e. omega arith) (λ e. omega arith) k)
 range-none false v e at k = refl
 
-module _ (at lo hi : ℕ) where
-  pub needed-fault : (f : Field) → faultOf (neededOf f at lo hi) ≡ firstFault (numberTests f at lo hi)
+-- a field that must be a number
+module _ (at last lo hi : ℕ) where
+  pub needed-fault : (f : Field) → faultOf (neededOf f at last lo hi) ≡ firstFault (numberTests f at last lo hi)
   unfolding firstFault
   needed-fault (Value v e) = range-fault (wholeIn lo v hi) v e at
   needed-fault Blank = refl
   needed-fault (Refused x) = refl
 
+  pub needed-number : (f : Field) (w x : ℤ) → neededOf f at last lo hi ≡ Value w x → wholeOf w ≡ numberOf f
+  needed-number (Value v e) w x q = ap wholeOf (sym (range-value (wholeIn lo v hi) v e w x at q))
+  needed-number Blank w x q = absurd (let z : _≡_ {A = ℕ} 0 1 = cc in omega arith)
+  needed-number (Refused y) w x q = absurd (let z : _≡_ {A = ℕ} 0 1 = cc in omega arith)
+
+  -- a field that is handed on and is no value has a fault
+  pub needed-none : (f : Field) → OneOf (1 ∷ 2 ∷ []) (tagOf the-type (neededOf f at last lo hi)) → (n : ℕ) ×
+      ((p : ℕ) × (faultOf (neededOf f at last lo hi) ≡ Fault n p))
+  needed-none (Value v e) k = (7, (at, range-none (wholeIn lo v hi) v e at k))
+  needed-none Blank k = (6, (last, refl))
+  needed-none (Refused x) k = (x .number, (x .place, refl))
+
+-- a count
+module _ (at lo hi : ℕ) where
   pub counted-fault : (f : Field) → faultOf (countedOf f at lo hi) ≡ firstFault (countTests f at lo hi)
   unfolding firstFault
   counted-fault (Value v e) = range-fault (wholeIn lo v hi) v e at
   counted-fault Blank = range-fault (withinOf lo 0 hi) (pos 0) (pos 0) at
   counted-fault (Refused x) = refl
 
-  pub needed-number : (f : Field) (w x : ℤ) → neededOf f at lo hi ≡ Value w x → wholeOf w ≡ numberOf f
-  needed-number (Value v e) w x q = ap wholeOf (sym (range-value (wholeIn lo v hi) v e w x at q))
-  needed-number Blank w x q = absurd (let z : _≡_ {A = ℕ} 0 1 = cc in omega arith)
-  needed-number (Refused y) w x q = absurd (let z : _≡_ {A = ℕ} 0 1 = cc in omega arith)
-
   pub counted-number : (f : Field) (w x : ℤ) → countedOf f at lo hi ≡ Value w x → wholeOf w ≡ numberOf f
   counted-number (Value v e) w x q = ap wholeOf (sym (range-value (wholeIn lo v hi) v e w x at q))
   counted-number Blank w x q = ap wholeOf (sym (range-value (withinOf lo 0 hi) (pos 0) (pos 0) w x at q))
   counted-number (Refused y) w x q = absurd (let z : _≡_ {A = ℕ} 0 1 = cc in omega arith)
-
-  -- a field that is handed on and is no value has a fault
-  pub needed-none : (f : Field) → OneOf (1 ∷ 2 ∷ []) (tagOf the-type (neededOf f at lo hi)) → (n : ℕ) × ((p : ℕ) × (faultOf (neededOf f at lo hi) ≡ Fault n p))
-  needed-none (Value v e) k = (7, (at, range-none (wholeIn lo v hi) v e at k))
-  needed-none Blank k = (6, (at, refl))
-  needed-none (Refused x) k = (x .number, (x .place, refl))
 
   pub counted-none : (f : Field) → OneOf (1 ∷ 2 ∷ []) (tagOf the-type (countedOf f at lo hi)) → (n : ℕ) ×
       ((p : ℕ) × (faultOf (countedOf f at lo hi) ≡ Fault n p))
@@ -133,21 +140,32 @@ readable-fault at Blank = refl
 readable-fault at (Refused x) = refl
 
 -- a field handed on is the definition's, in each case
-module _ (at lo hi : ℕ) (f : Field) where
-  pub needed-value : (v e : ℤ) → f ≡ Value v e → inRange v e at lo hi ≡ neededOf f at lo hi
+module _ (at last lo hi : ℕ) (f : Field) where
+  pub needed-value : (v e : ℤ) → f ≡ Value v e → inRange v e at lo hi ≡ neededOf f at last lo hi
   needed-value v e q = rw q
 
-  pub needed-refused : (x : Refusal) → f ≡ Refused x → f ≡ neededOf f at lo hi
+  pub needed-refused : (x : Refusal) → f ≡ Refused x → Refused x ≡ neededOf f at last lo hi
   needed-refused x q = rw q
 
+  pub needed-blank : f ≡ Blank → refuse 6 last ≡ neededOf f at last lo hi
+  needed-blank q = rw q
+
+module _ (at lo hi : ℕ) (f : Field) where
   pub counted-value : (v e : ℤ) → f ≡ Value v e → inRange v e at lo hi ≡ countedOf f at lo hi
   counted-value v e q = rw q
 
   pub counted-refused : (x : Refusal) → f ≡ Refused x → f ≡ countedOf f at lo hi
   counted-refused x q = rw q
 
-  pub needed-blank : f ≡ Blank → refuse 6 at ≡ neededOf f at lo hi
-  needed-blank q = rw q
-
   pub counted-blank : f ≡ Blank → inRange (pos 0) (pos 0) at lo hi ≡ countedOf f at lo hi
   counted-blank q = rw q
+
+-- a field has a byte
+pub some-byte : (k : Form) → 1 ≤ widthOf k
+some-byte I4 = omega arith
+some-byte I6 = omega arith
+some-byte I8 = omega arith
+some-byte I16 = omega arith
+some-byte F8d3 = omega arith
+some-byte F16d7 = omega arith
+some-byte E20d13 = omega arith

@@ -15,7 +15,7 @@ use Rattle.words.proofs.Laws.{within-true, both-l, both-r, both-true}
 use Rattle.fields.specs.declared.Field.{Field}
 use Rattle.fields.specs.declared.Field.the-variants.{Value, Blank, Refused}
 use Rattle.verdicts.specs.Tests.{Test, firstFault, allHold, each, numberTests, countTests, numberOf}
-use Rattle.verdicts.specs.Numbers.{Number, number, at, numberAt, rowTests, numbersTests}
+use Rattle.verdicts.specs.Numbers.{Number, number, at, lastOf, numberAt, rowTests, numbersTests}
 use Rattle.verdicts.specs.declared.Verdict.{Verdict}
 use Rattle.verdicts.specs.declared.Verdict.the-variants.{Fine, Fault}
 
@@ -88,11 +88,11 @@ module _ {A : Type 0} (g : A → List Test) (d : A) where
 
 -- ---- number fields
 
-pub number-holds : (f : Field) (at lo hi : ℕ) → Holds (numberTests f at lo hi) → (lo ≤ numberOf f) × (numberOf f ≤ hi)
-number-holds (Value (pos n) e) at lo hi h = within-true lo n hi (h .1 .0)
-number-holds (Value (negsuc n) e) at lo hi h = absurd (false≢true (h .1 .0))
-number-holds Blank at lo hi h = absurd (false≢true (h .0))
-number-holds (Refused x) at lo hi h = absurd (false≢true (h .0))
+pub number-holds : (f : Field) (at last lo hi : ℕ) → Holds (numberTests f at last lo hi) → (lo ≤ numberOf f) × (numberOf f ≤ hi)
+number-holds (Value (pos n) e) at last lo hi h = within-true lo n hi (h .1 .0)
+number-holds (Value (negsuc n) e) at last lo hi h = absurd (false≢true (h .1 .0))
+number-holds Blank at last lo hi h = absurd (false≢true (h .0))
+number-holds (Refused x) at last lo hi h = absurd (false≢true (h .0))
 
 pub count-holds : (f : Field) (at lo hi : ℕ) → Holds (countTests f at lo hi) → (lo ≤ numberOf f) × (numberOf f ≤ hi)
 count-holds (Value (pos n) e) at lo hi h = within-true lo n hi (h .1 .0)
@@ -107,4 +107,5 @@ pub row-holds : (r : List ℕ) (xs : List Number) → Holds (numbersTests r xs) 
 unfolding numbersTests
 row-holds r xs h i l =
     let x = getD xs i (number 0 I4 0 0) in
-    number-holds (at r (x .byte) (x .form)) (placeOf (x .byte)) (x .least) (x .most) (each-holds (rowTests r) (number 0 I4 0 0) xs h i l)
+    number-holds (at r (x .byte) (x .form)) (placeOf (x .byte)) (lastOf (x .byte) (x .form)) (x .least) (x .most)
+    (each-holds (rowTests r) (number 0 I4 0 0) xs h i l)

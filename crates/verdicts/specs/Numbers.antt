@@ -1,9 +1,10 @@
 -- Number fields by document 01's byte numbers (from 1): a field and the number that it says, the tests of a table's rows, and the text that every
 -- first record has ("First records and what they promise"; 000). Assumes nothing.
-use Prim.Native.Nat.{ℕ}
+use Prim.Native.Nat.{ℕ, _+_, _-_}
 use mathlib.Core.List.{List}
 use Rattle.words.specs.Words.{placeOf}
 use Rattle.decimal.specs.Text.{bytes}
+use Rattle.decimal.specs.Forms.{widthOf}
 use Rattle.decimal.specs.declared.Form.{Form}
 use Rattle.fields.specs.Field.{fieldAt}
 use Rattle.fields.specs.declared.Field.{Field}
@@ -12,6 +13,10 @@ use Rattle.verdicts.specs.Tests.{Test, each, textTest, numberTests, numb
 -- a field of a record, by its first byte and form
 abbrev pub at : List ℕ → ℕ → Form → Field
 at r byte k = fieldAt r (placeOf byte) k
+
+-- the place of its last byte
+abbrev pub lastOf : ℕ → Form → ℕ
+lastOf byte k = placeOf byte + (widthOf k - 1)
 
 -- the number that it says; 0 where it says none
 abbrev pub numberAt : List ℕ → ℕ → Form → ℕ
@@ -29,7 +34,7 @@ number byte k lo hi = record { byte = byte; form = k; least = lo; most = hi }
 
 -- its tests: form, then range
 abbrev pub rowTests : List ℕ → Number → List Test
-rowTests r x = numberTests (at r (x .byte) (x .form)) (placeOf (x .byte)) (x .least) (x .most)
+rowTests r x = numberTests (at r (x .byte) (x .form)) (placeOf (x .byte)) (lastOf (x .byte) (x .form)) (x .least) (x .most)
 
 -- the tests of several, by position
 unfoldable pub numbersTests : List ℕ → List Number → List Test

@@ -51,7 +51,7 @@ textAt r at (c ∷ cs) = bothOf (eqb (byteAt r at) c) (textAt r (at + 1) cs)
 abbrev pub textTest : List ℕ → ℕ → List ℕ → Test
 textTest r byte t = test (textAt r (placeOf byte) t) 8 (placeOf byte)
 
--- ---- number fields: form (6), then range (7), at the field's first byte
+-- ---- number fields: form (6, at the first bad byte, or the last byte of a blank field where a number is needed), then range (7, at the first byte)
 
 abbrev pub value? : Field → Bool
 value? (Value v e) = true
@@ -70,6 +70,7 @@ unreadNumber (Value v e) = 6
 unreadNumber Blank = 6
 unreadNumber (Refused x) = x .number
 
+-- its place: its own, or that one where it is blank
 abbrev pub unreadPlace : ℕ → Field → ℕ
 unreadPlace at (Value v e) = at
 unreadPlace at Blank = at
@@ -101,9 +102,9 @@ numberOf (Value v e) = wholeOf v
 numberOf Blank = 0
 numberOf (Refused x) = 0
 
--- a field at a byte that must be a number in a range
-abbrev pub numberTests : Field → ℕ → ℕ → ℕ → List Test
-numberTests f at lo hi = test (value? f) (unreadNumber f) (unreadPlace at f) ∷ test (valueIn lo f hi) 7 at ∷ []
+-- a field, by its first byte and its last, that must be a number in a range
+abbrev pub numberTests : Field → ℕ → ℕ → ℕ → ℕ → List Test
+numberTests f at last lo hi = test (value? f) (unreadNumber f) (unreadPlace last f) ∷ test (valueIn lo f hi) 7 at ∷ []
 
 -- a count, which may be blank
 abbrev pub countTests : Field → ℕ → ℕ → ℕ → List Test
@@ -125,11 +126,11 @@ faultOf (Refused x) = Fault (x .number) (x .place)
 abbrev pub inRange : ℤ → ℤ → ℕ → ℕ → ℕ → Field
 inRange v e at lo hi = pick (wholeIn lo v hi) (Value v e) (refuse 7 at)
 
--- a field that must be a number in a range: its value; else its own refusal, 6 where it is blank, 7 outside the range
-abbrev pub neededOf : Field → ℕ → ℕ → ℕ → Field
-neededOf (Value v e) at lo hi = inRange v e at lo hi
-neededOf Blank at lo hi = refuse 6 at
-neededOf (Refused x) at lo hi = Refused x
+-- a field, by its first byte and its last, that must be a number in a range: its value; else its own refusal, 6 where it is blank, 7 outside the range
+abbrev pub neededOf : Field → ℕ → ℕ → ℕ → ℕ → Field
+neededOf (Value v e) at last lo hi = inRange v e at lo hi
+neededOf Blank at last lo hi = refuse 6 last
+neededOf (Refused x) at last lo hi = Refused x
 
 -- a count, whose blank field says 0
 abbrev pub countedOf : Field → ℕ → ℕ → ℕ → Field

@@ -11,7 +11,7 @@ ghost use lib.ListN.{length};
 ghost use Rattle.words.specs.Words.{placeOf};
 ghost use Rattle.verdicts.specs.Tests.{firstFault, textAt, textTest, faultOf, inRange, neededOf, countedOf, wholeIn, wholeOf};
 ghost use Rattle.fields.specs.Field.{refuse};
-ghost use Rattle.verdicts.specs.Numbers.{firstText, at};
+ghost use Rattle.verdicts.specs.Numbers.{firstText, at, lastOf};
 
 // What was found in a record: nothing wrong, or the first fault's number and its place in the record.
 pub enum Verdict {
@@ -105,17 +105,6 @@ fn in_range(v: i64, e: i64, place: u64, lo: u64, hi: u64) -> Field
     refused(7, place)
 }
 
-// A field that must be a number in a range: form (6), then range (7), at its first byte.
-fn needed(f: Field, place: u64, lo: u64, hi: u64) -> Field
-    ensures { λ x. ⌜ x ≡ neededOf f place lo hi ⌝ }
-{
-    match f {
-        Field::Value(v, e) => in_range(v, e, place, lo, hi),
-        Field::Blank => refused(6, place),
-        Field::Refused(_) => f,
-    }
-}
-
 // A count, whose blank field says 0.
 fn counted(f: Field, place: u64, lo: u64, hi: u64) -> Field
     ensures { λ x. ⌜ x ≡ countedOf f place lo hi ⌝ }
@@ -135,11 +124,17 @@ pub fn field(r: &[u8], byte: usize, form: Form) -> Field
 }
 
 // The field of that form at document 01's byte, which must be a number in a range: its value, or the
-// refusal. Where there is no upper end, `most` is the largest number.
+// refusal. Its form (6, of a blank field at its last byte), then its range (7, at its first). Where there
+// is no upper end, `most` is the largest number.
 pub fn number(r: &[u8], byte: usize, form: Form, least: u64, most: u64) -> Field
-    ensures { λ x. ⌜ x ≡ neededOf (at (now (r .entry)) byte form) (placeOf byte) least most ⌝ }
+    ensures { λ x. ⌜ x ≡ neededOf (at (now (r .entry)) byte form) (placeOf byte) (lastOf byte form) least most ⌝ }
 {
-    needed(field(r, byte, form), words::place(byte) as u64, least, most)
+    let first = words::place(byte);
+    match field(r, byte, form) {
+        Field::Value(v, e) => in_range(v, e, first as u64, least, most),
+        Field::Blank => refused(6, (first + (decimal::width(form) - 1)) as u64),
+        Field::Refused(x) => Field::Refused(x),
+    }
 }
 
 // The count of six columns at document 01's byte, which may be blank: its value, or the refusal.

@@ -286,6 +286,59 @@ def signs(rng: random.Random, ask: Asking, block: int) -> None:
         ask.field(0, 2006, number)
 
 
+def begun_well(rng: random.Random, form: str) -> Iterator[bytes]:
+    """A good beginning of every length, then a byte of each letter of the grammar and one of none, then a good end, blanks or anything."""
+    width = make.WIDTH[form]
+    for at in range(width):
+        good = make.spell_listed(rng, form)[0]
+        for letter in b' 5+-.Ex':
+            rest = rng.choice((good, good, b' ' * width, grammar(rng, width), rng.randbytes(width)))
+            yield good[:at] + bytes((letter,)) + rest[at + 1:]
+
+
+def bad_bytes(rng: random.Random, ask: Asking, block: int) -> None:
+    """The place of a 6 (document 02, No. 5): a listed field and a number of the walk that go wrong at each of their bytes."""
+    number = 1 + block % 13
+    first, _, form = reader.LISTED[number]
+    ask.hold(rng.randbytes(2006))
+    for text in begun_well(rng, form):
+        ask.put(first - 1, text)
+        ask.field(0, 2006, number)
+    made = smallest(rng, KINDS[block % 3])
+    part = rng.choice([part for part in made.parts if part.sort in ('number', 'listed')])
+    ask.hold(made.data)
+    ask.set_state(made.state(part.record - 1))
+    begun, ended = made.starts[part.record - 1], made.starts[part.record]
+    for text in (b' ' * part.width, *begun_well(rng, part.form)):
+        ask.put(part.place, text)
+        ask.walk(begun, ended - begun, either(rng), 1)
+    spoilt_files(rng, ask)
+
+
+def spoilt(rng: random.Random, made: Made) -> bytes:
+    """One number of the file badly written."""
+    part = rng.choice([part for part in made.parts if part.sort in ('number', 'listed')])
+    text = rng.choice(make.bad_texts(part.form))
+    return made.data[:part.place] + text + made.data[part.place + part.width:]
+
+
+def spoilt_files(rng: random.Random, ask: Asking) -> None:
+    """A badly written number in an image, whatever is asked of its lines; in a directory; in either file of a scene."""
+    image, leader, volume = (smallest(rng, kind) for kind in (IMAGE, LEADER, VOLUME))
+    files = [spoilt(rng, image), image.data, spoilt(rng, leader), spoilt(rng, volume)]
+    ask.hold(b''.join(files))
+    bad_image, good_image, bad_leader, bad_volume = ((sum(map(len, files[:i])), len(data)) for i, data in enumerate(files))
+    line = rng.randint(0, 3)
+    ask.line(*bad_image, line)
+    ask.row(*bad_image, line, 9)
+    ask.complex_row(*bad_image, line, 9)
+    ask.sample(*bad_image, line, 0)
+    ask.power(*bad_image, line, 0)
+    ask.set(*bad_volume, volume.counts)
+    for one in (bad_image, good_image):
+        ask.card_build(one, bad_leader, 400)
+
+
 def numbers(rng: random.Random, ask: Asking, block: int) -> None:
     """Every number field of the records that the walk reads (I4, I6, I8), in every shape."""
     made = make.random_file(rng, KINDS[block % 3])
@@ -606,7 +659,7 @@ def sample_arrays(rng: random.Random, ask: Asking) -> None:
 
 # sort: its share of a thousand cases
 SORTS: dict[Sort, int] = {
-    whole: 60, broken: 150, damaged: 110, cuts: 150, pieces: 80, states: 110, begins: 5, far: 40, fields: 100, signs: 100, numbers: 60,
+    whole: 60, broken: 150, damaged: 110, cuts: 150, pieces: 80, states: 110, begins: 5, far: 40, fields: 100, signs: 100, bad_bytes: 60, numbers: 60,
     lines: 60, rows: 40, sets: 25, listing: 10, arrays: 25, cards_read: 60, card_cuts: 30, card_numbers: 30, cards_built: 40,
     samples_and_powers: 100, powers: 30,
 }

@@ -43,6 +43,74 @@ static uint64_t altered(uint64_t returned, uint64_t *answer, size_t answer_len) 
   return returned;
 }
 
+/* It is a refusal, with that number. */
+static int gives(uint64_t returned, const uint64_t *answer, uint64_t number) {
+  return returned && answer[SBG_TAG] == SBG_REFUSED && answer[SBG_A] == number;
+}
+
+/* The place of a 6 (document 02, No. 5) ---------------------------------------------------------------------- */
+
+/* A byte before the bad one, or behind it. */
+static void move_six(uint64_t returned, uint64_t *answer, int early, int late) {
+  if (gives(returned, answer, 6)) answer[SBG_C] += (uint64_t)(late - early);
+}
+
+/* The number fields that the walk judges, as host/ has them for its marks. */
+static const struct number_fields {
+  uint64_t kind, first_record, last_record, byte, count, apart;
+  const char *form;
+} NUMBERS[] = {
+#define NUMBER_FIELDS(kind, ...) {SBG_##kind, __VA_ARGS__},
+#include "../../../host/number_fields.def"
+#undef NUMBER_FIELDS
+};
+
+/* How far into its field a byte of a record is, which is counted from 1. */
+static uint64_t into_field(uint64_t kind, uint64_t record, uint64_t byte) {
+  for (size_t i = 0; i < sizeof NUMBERS / sizeof *NUMBERS; i++) {
+    const struct number_fields *some = &NUMBERS[i];
+    if (kind != some->kind || record < some->first_record || record > some->last_record || byte < some->byte) continue;
+    uint64_t on = (byte - some->byte) % some->apart;
+    if ((byte - some->byte) / some->apart < some->count && on < strtoull(some->form + 1, NULL, 10)) return on;
+  }
+  return 0;
+}
+
+/* So many blanks end with that byte. */
+static uint64_t blanks_up_to(const uint8_t *bytes, uint64_t most) {
+  uint64_t count = 0;
+  while (count < most && *(bytes - count) == ' ') count++;
+  return count;
+}
+
+/* Of a walk: `bad` is the bad byte, and the record starts at `begun` in the file. */
+static void alter_walk_six(const uint64_t *state, uint64_t begun, const uint8_t *bad, uint64_t *answer) {
+  uint64_t on = into_field(state[SBG_KIND], answer[SBG_B], answer[SBG_C] - begun + 1);
+  int blank = blanks_up_to(bad, on + 1) == on + 1; /* a needed field, and its last byte */
+  int sign = (*bad == '-' || *bad == '+') && on > 0 && blanks_up_to(bad - 1, on) == on;
+  if (wrong("walk-6-at-the-first-byte")) answer[SBG_C] -= on;
+  if (blank && wrong("walk-6-blank-at-the-first-byte")) answer[SBG_C] -= on;
+  if (blank && wrong("walk-6-blank-behind-the-field")) answer[SBG_C]++;
+  if (sign && wrong("walk-6-behind-a-last-sign")) answer[SBG_C]++;
+}
+
+/* Of a listed field of 16 bytes and 7 places: the point's column is the ninth. */
+static void alter_point_six(const uint8_t *field, uint64_t first, uint64_t *answer) {
+  uint64_t bad = answer[SBG_C] - first, point = first + 8;
+  if (bad > 8 && blanks_up_to(field + 8, 9) == 9 && wrong("field-6-no-blank-past-the-point")) answer[SBG_C] = point;
+  if (bad == 8 && field[8] >= '0' && field[8] <= '9' && wrong("field-6-digits-past-the-point")) answer[SBG_C]++;
+  if (bad == 8 && field[8] == ' ' && wrong("field-6-sign-and-blanks-at-the-sign")) answer[SBG_C] -= blanks_up_to(field + 8, 8);
+  if (bad < 8 && field[bad] == '.' && wrong("field-6-early-point-at-its-column")) answer[SBG_C] = point;
+}
+
+static void alter_field_six(const uint8_t *bytes, uint64_t number, uint64_t *answer) {
+  static const uint64_t first[] = {0, 476, 710, 742, 934, 1886, 1906, 1926, 1946, 1966, 1986, 60, 76, 92};
+  uint64_t at = first[number];
+  if (number == 2 || number == 3 || number == 4 || number == 13) alter_point_six(bytes + at, at, answer);
+  if (wrong("field-6-at-the-first-byte")) answer[SBG_C] = at;
+  if (wrong("field-6-in-the-field")) answer[SBG_C] -= at;
+}
+
 uint64_t OURS(sbg_begin)(uint64_t kind, uint64_t *state, size_t state_len, uint64_t *answer, size_t answer_len) {
   if (wrong("kind-32-bits")) kind &= 0xFFFFFFFF;
   uint64_t returned = REAL(sbg_begin)(kind, state, state_len, answer, answer_len);
@@ -85,6 +153,8 @@ uint64_t OURS(sbg_walk)(uint64_t *state, size_t state_len, const uint8_t *bytes,
   if (hide) state[SBG_S] = s;
   if (hide_sort) state[SBG_SORT] = sort;
   if (returned && wrong("fills-wrap")) wrap_fills(state, bytes, answer, from);
+  if (gives(returned, answer, 6)) alter_walk_six(state, REAL(sbg_start)(state, state_len), bytes + (answer[SBG_C] - from), answer);
+  move_six(returned, answer, wrong("walk-6-one-early"), wrong("walk-6-one-late"));
   if (returned) alter_walk(state, state_len, closed, answer);
   if (wrong("reads-past") && len > 1000 && closed) s = *(volatile const uint8_t *)(bytes + len);
   if (wrong("bytes-written") && len > 1000) ((uint8_t *)bytes)[len - 1] ^= 1;
@@ -112,6 +182,8 @@ uint64_t OURS(sbg_field)(const uint8_t *bytes, size_t len, uint64_t number, int6
   if (is_value && value[1] < 0 && wrong("exponent-sign-lost")) value[1] = -value[1];
   if (returned && answer[SBG_TAG] == SBG_BLANK && wrong("blank-written")) value[0] = value[1] = 0;
   if (returned && answer[SBG_A] == 14 && len < 60 && wrong("14-behind-2")) answer[SBG_A] = 2;
+  if (gives(returned, answer, 6)) alter_field_six(bytes, number, answer);
+  move_six(returned, answer, wrong("field-6-one-early"), wrong("field-6-one-late"));
   return altered(returned, answer, answer_len);
 }
 
@@ -134,6 +206,7 @@ uint64_t OURS(sbg_line)(const uint8_t *bytes, size_t len, uint64_t line, uint64_
   uint64_t returned = REAL(sbg_line)(bytes, len, line, answer, answer_len);
   if (returned && answer[SBG_TAG] == SBG_SHOWN) alter_view(bytes, len, line, answer);
   if (returned && answer[SBG_TAG] == SBG_SHOWN && wrong("left-is-right")) answer[SBG_C] = 0;
+  move_six(returned, answer, wrong("line-6-one-early"), wrong("line-6-one-late"));
   return altered(returned, answer, answer_len);
 }
 
@@ -142,11 +215,6 @@ static void tell(uint64_t *answer, uint64_t tag, uint64_t a, uint64_t b) {
   answer[SBG_TAG] = tag;
   answer[SBG_A] = a;
   answer[SBG_B] = b;
-}
-
-/* A refusal that comes too early: with this number for the one given. */
-static int gives(uint64_t returned, const uint64_t *answer, uint64_t number) {
-  return returned && answer[SBG_TAG] == SBG_REFUSED && answer[SBG_A] == number;
 }
 
 uint64_t OURS(sbg_row)(const uint8_t *bytes, size_t len, uint64_t line, uint16_t *row, size_t row_len,
@@ -160,6 +228,7 @@ uint64_t OURS(sbg_row)(const uint8_t *bytes, size_t len, uint64_t line, uint16_t
   if (copied && many == row_len && wrong("row-past")) *(volatile uint16_t *)(row + row_len) = 0;
   if (copied && many && wrong("row-ahead")) *(volatile uint16_t *)(row - 1) = 0;
   if (gives(returned, answer, 23) && row_len == 0 && wrong("row-15-before-23")) tell(answer, SBG_REFUSED, 15, 0);
+  move_six(returned, answer, wrong("row-6-one-early"), wrong("row-6-one-late"));
   return altered(returned, answer, answer_len);
 }
 
@@ -172,6 +241,7 @@ uint64_t OURS(sbg_set)(const uint8_t *bytes, size_t len, const uint64_t *counts,
     memset(answer, 0, 8 * SBG_ANSWER);
     answer[SBG_TAG] = SBG_AGREES;
   }
+  move_six(returned, answer, wrong("set-6-one-early"), wrong("set-6-one-late"));
   return altered(returned, answer, answer_len);
 }
 
@@ -273,6 +343,7 @@ uint64_t OURS(sbg_card_build)(const uint8_t *image, size_t image_len, const uint
   uint64_t returned = REAL(sbg_card_build)(image, image_len, leader, leader_len, card, card_len, answer, answer_len);
   if (returned && answer[SBG_TAG] == SBG_BUILT) alter_built(card, card_len, answer);
   if (returned && answer[SBG_TAG] == SBG_REFUSED) alter_unbuilt(leader, leader_len, card, card_len, answer);
+  move_six(returned, answer, wrong("build-6-one-early"), wrong("build-6-one-late"));
   return altered(returned, answer, answer_len);
 }
 
@@ -308,6 +379,7 @@ uint64_t OURS(sbg_sample)(const uint8_t *bytes, size_t len, uint64_t line, uint6
     if (is_nan(*b) && wrong("sample-one-nan")) *b = 0x7FC00000;
   }
   if (gives(returned, answer, 36) && index == UINT64_MAX && wrong("sample-36-is-13")) *a = 13;
+  move_six(returned, answer, wrong("sample-6-one-early"), wrong("sample-6-one-late"));
   return altered(returned, answer, answer_len);
 }
 
@@ -333,6 +405,7 @@ uint64_t OURS(sbg_power)(const uint8_t *bytes, size_t len, uint64_t line, uint64
   if (gives(returned, answer, 13) && wrong("power-23-before-13")) tell(answer, SBG_REFUSED, 23, 0);
   if (gives(returned, answer, 24) && wrong("power-of-any-part")) tell(answer, SBG_POWER, 0x7F800000, 0);
   if (gives(returned, answer, 24) && wrong("power-24-has-a-record")) answer[SBG_B] = line + 1;
+  move_six(returned, answer, wrong("power-6-one-early"), wrong("power-6-one-late"));
   return altered(returned, answer, answer_len);
 }
 
@@ -357,5 +430,6 @@ uint64_t OURS(sbg_complex_row)(const uint8_t *bytes, size_t len, uint64_t line, 
   if (gives(returned, answer, 23) && row_len == 0 && wrong("complex-row-15-before-23")) tell(answer, SBG_REFUSED, 15, 0);
   if (gives(returned, answer, 15) && row_len && wrong("complex-row-as-far-as-it-goes")) row[0] = 0;
   if (gives(returned, answer, 23) && row_len && wrong("complex-row-before-it-judges")) row[0] = 0;
+  move_six(returned, answer, wrong("complex-row-6-one-early"), wrong("complex-row-6-one-late"));
   return altered(returned, answer, answer_len);
 }

@@ -363,15 +363,48 @@ static void field_of(const uint8_t *bytes, size_t len, uint64_t number, uint64_t
   }
 }
 
+/* The listed fields: where each starts in its record, and a number that fills it. */
+static const size_t FIRST[] = {476, 710, 742, 934, 1886, 1906, 1926, 1946, 1966, 1986, 60, 76, 92};
+#define E20_13 "55.5555555555555E-55"
+#define F16_7 "55555555.5555555"
+#define I16 "5555555555555555"
+static const char *const FULL[] = {"5555.555", F16_7, F16_7, F16_7, E20_13, E20_13, E20_13, E20_13, E20_13, E20_13, I16, I16, F16_7};
+enum { FIELDS_END = 2006 };
+
+/* What the field says once its bytes from `from` on are those of `text`. */
+static void completed(const uint8_t *bytes, size_t len, uint64_t number, size_t from, const char *text, uint64_t *told) {
+  uint8_t record[FIELDS_END];
+  int64_t value[SBG_VALUE];
+  size_t held = len < FIELDS_END ? len : FIELDS_END;
+  memcpy(record, bytes, held);
+  memcpy(record + FIRST[number - 1] + from, text + from, strlen(text) - from);
+  field_of(record, held, number, told, value);
+}
+
+/* A 6 is at the bad byte (document 02, No. 5): what stands before it can be completed, as a number or by blanks, and
+ * nothing that stands behind it mends it. */
+static void check_bad_byte(const uint8_t *bytes, size_t len, uint64_t number, const uint64_t *told) {
+  static const char blank[] = "                    ";
+  const char *full = FULL[number - 1], *none = blank + sizeof blank - 1 - strlen(full);
+  size_t bad = (size_t)told[SBG_C] - FIRST[number - 1];
+  uint64_t one[SBG_ANSWER], other[SBG_ANSWER];
+  hold(told[SBG_C] >= FIRST[number - 1] && bad < strlen(full), "the bad byte is in the field");
+  completed(bytes, len, number, bad, full, one);
+  completed(bytes, len, number, bad, none, other);
+  hold(one[SBG_TAG] != SBG_REFUSED || other[SBG_TAG] != SBG_REFUSED, "what stands before the bad byte can be completed");
+  completed(bytes, len, number, bad + 1, full, one);
+  completed(bytes, len, number, bad + 1, none, other);
+  hold(same(one, told, SBG_ANSWER) && same(other, told, SBG_ANSWER), "nothing behind the bad byte mends it");
+}
+
 /* A value is what C's own reading of the same text says: both are the double nearest to one decimal. C knows no blanks
  * behind a sign (document 02, No. 4), so that it gets the text without any. */
 static void read_again(const uint8_t *bytes, uint64_t number, const int64_t *value) {
-  static const int first[] = {476, 710, 742, 934, 1886, 1906, 1926, 1946, 1966, 1986, 60, 76, 92};
-  static const int width[] = {8, 16, 16, 16, 20, 20, 20, 20, 20, 20, 16, 16, 16}, places[] = {3, 7, 7, 7, 13, 13, 13, 13, 13, 13, 0, 0, 7};
+  static const int places[] = {3, 7, 7, 7, 13, 13, 13, 13, 13, 13, 0, 0, 7};
   char text[21] = {0}, said[40];
   size_t written = 0;
-  for (int i = 0; i < width[number - 1]; i++)
-    if (bytes[first[number - 1] + i] != ' ') text[written++] = (char)bytes[first[number - 1] + i];
+  for (size_t i = 0; i < strlen(FULL[number - 1]); i++)
+    if (bytes[FIRST[number - 1] + i] != ' ') text[written++] = (char)bytes[FIRST[number - 1] + i];
   snprintf(said, sizeof said, "%llde%lld", (long long)value[0], (long long)value[1] - places[number - 1]);
   hold(strtod(text, NULL) == strtod(said, NULL), "the value is the text's");
 }
@@ -382,6 +415,7 @@ static void check_field(const uint8_t *bytes, size_t len, const Choices *c) {
   field_of(bytes, len, c->field, told, value);
   seen(6, told, c->field);
   if (told[SBG_TAG] == SBG_IS_VALUE) read_again(bytes, c->field, value);
+  if (told[SBG_TAG] == SBG_REFUSED && told[SBG_A] == 6) check_bad_byte(bytes, len, c->field, told);
   field_of(lend(&part_arena, bytes, c->cut), c->cut, c->field, early, early_value);
   if (early[SBG_TAG] == SBG_REFUSED && early[SBG_A] == 2) return;
   hold(same(early, told, SBG_ANSWER) && !memcmp(value, early_value, sizeof value), "more bytes never alter a field");

@@ -5,7 +5,7 @@ use native.Mathlib.Omega.{arith}
 use Rattle.decimal.specs.declared.Form.the-variants.{I4}
 use Rattle.plan.specs.declared.Sort.{Sort}
 use Rattle.verdicts.specs.Tests.{neededOf}
-use Rattle.verdicts.specs.Numbers.{at}
+use Rattle.verdicts.specs.Numbers.{at, lastOf}
 use Rattle.words.specs.Words.{placeOf}
 use Rattle.image.specs.Image.{imageRow, numberField}
 use borrow.Author.Needs.{needs}
@@ -67,7 +67,7 @@ returns-3 c =
     let sort-at = c .before .before .sort-at in
     let match = c .before .match in
     c .number3 .ensures
-    ∙ ap (λ (s : Sort). neededOf (at (args .r .now) 225 I4) (placeOf 225) (s .group) (s .group))
+    ∙ ap (λ (s : Sort). neededOf (at (args .r .now) 225 I4) (placeOf 225) (lastOf 225 I4) (s .group) (s .group))
     (sort-at .ensures)
     ∙ sym (ap (λ (k : ℕ). numberField (args .r .now) (imageRow (args .sort) k)) (match .keys3))
 

@@ -7,7 +7,7 @@ use Rattle.words.specs.Words.{placeOf}
 use Rattle.decimal.specs.declared.Form.the-variants.{I6}
 use Rattle.plan.specs.declared.Slot.{Slot}
 use Rattle.verdicts.specs.Tests.{countedOf, neededOf, wholeOf}
-use Rattle.verdicts.specs.Numbers.{at}
+use Rattle.verdicts.specs.Numbers.{at, lastOf}
 use Rattle.verdicts.specs.declared.Verdict.{Verdict}
 use Rattle.leader.proofs.PairLaws as laws
 use borrow.Author.Needs.{needs}
@@ -81,7 +81,7 @@ returns-3 c =
     ∙ ap (λ (s : Slot). countedOf (at r (x .byte) I6) (placeOf (x .byte)) (s .least) (s .most))
     (c .before .before .before .before .before .before .before .before .before .before .slot-at .ensures) in
     let k = c .before .before .before .number .ensures
-    ∙ ap (λ (s : Slot). neededOf (at r (x .byte + 6) (x .form)) (placeOf (x .byte + 6)) (s .shortest) (s .longest))
+    ∙ ap (λ (s : Slot). neededOf (at r (x .byte + 6) (x .form)) (placeOf (x .byte + 6)) (lastOf (x .byte + 6) (x .form)) (s .shortest) (s .longest))
     (c .before .before .before .before .before .before .before .before .before .before .slot-at .ensures) in
     laws.bad-length r x _ e (c .before .before .before .before .before .before .before .f .given .1)
     (λ o. c .before .before .before .before .if1 .left (c .before .before .before .before .before .whole .ensures ∙ ap wholeOf z ∙ o)) _ k
@@ -103,7 +103,7 @@ returns-4 c =
     ∙ ap (λ (s : Slot). countedOf (at r (x .byte) I6) (placeOf (x .byte)) (s .least) (s .most))
     (c .before .before .before .before .before .before .before .before .before .before .before .slot-at .ensures) in
     let k = c .before .before .before .before .number .ensures
-    ∙ ap (λ (s : Slot). neededOf (at r (x .byte + 6) (x .form)) (placeOf (x .byte + 6)) (s .shortest) (s .longest))
+    ∙ ap (λ (s : Slot). neededOf (at r (x .byte + 6) (x .form)) (placeOf (x .byte + 6)) (lastOf (x .byte + 6) (x .form)) (s .shortest) (s .longest))
     (c .before .before .before .before .before .before .before .before .before .before .before .slot-at .ensures) in
     laws.pair-held r x _ e (c .before .before .before .before .before .before .before .before .f .given .1)
     (λ o. c .before .before .before .before .before .if1 .left (c .before .before .before .before .before .before .whole .ensures ∙ ap wholeOf z
