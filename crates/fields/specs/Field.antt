@@ -1,7 +1,8 @@
 -- What a number field at a place of some bytes says, and that answer in document 01's words. Assumes nothing.
 use Prim.Native.Nat.{ℕ, _+_}
 use mathlib.Core.List.{List}
-use lib.Dec.{ltb}
+use mathlib.Core.Bool.{Bool, false}
+use lib.Dec.{eqb, ltb}
 use lib.ListN.{length, take, drop}
 use Rattle.words.specs.Tests.{pick}
 use Rattle.words.specs.Answer.{Answer, valued, bare, blank, refusedAs, refusalAt}
@@ -41,3 +42,15 @@ badPlace b at k = at + badIn (shapeOf k) (fieldBytes b at k)
 -- what stands there: 2 where the bytes end before the field does, else what is written
 unfoldable pub fieldAt : List ℕ → ℕ → Form → Field
 fieldAt b at k = pick (ltb (length b) (at + widthOf k)) (refuse 2 0) (fromWritten (badPlace b at k) (written k (fieldBytes b at k)))
+
+-- ---- how the code goes about it: nobody need believe what follows
+
+-- the same, with a 6 at the field's first byte
+unfoldable pub roughAt : List ℕ → ℕ → Form → Field
+roughAt b at k = pick (ltb (length b) (at + widthOf k)) (refuse 2 0) (fromWritten at (written k (fieldBytes b at k)))
+
+-- a field that is badly written
+abbrev pub badly? : Field → Bool
+badly? (Value m e) = false
+badly? Blank = false
+badly? (Refused x) = eqb (x .number) 6

@@ -7,10 +7,9 @@ use lib.ListN.{length, take, drop}
 use Rattle.words.specs.Tests.{pick}
 use Rattle.decimal.specs.Scan.{decimalOf}
 use Rattle.decimal.specs.declared.Shape.{Shape}
-use Rattle.bad_byte.specs.Columns.{badIn}
 use Rattle.fields.specs.Field.{refuse, fromWritten}
 use Rattle.fields.specs.declared.Field.{Field}
 
--- 2 where the bytes end before the field does, else what its bytes say as a field of the shape
+-- 2 where the bytes end before the field does, else what its bytes say as a field of the shape; a 6 is at the field's first byte so far
 unfoldable pub shapedAt : List ℕ → ℕ → ℕ → Shape → Field
-shapedAt b at n s = pick (ltb (length b) (at + n)) (refuse 2 0) (fromWritten (at + badIn s (take n (drop at b))) (decimalOf s (take n (drop at b))))
+shapedAt b at n s = pick (ltb (length b) (at + n)) (refuse 2 0) (fromWritten at (decimalOf s (take n (drop at b))))

@@ -6,14 +6,15 @@ use decimal::Shape;
 use decimal::Written;
 use words::Refusal;
 ghost use mathlib.Core.Path.{_≡_};
-ghost use Prim.Native.Nat.{_<_, _+_, _^_};
+ghost use Prim.Native.Nat.{_<_, _≤_, _+_};
 ghost use lib.Dec.{ltb};
-ghost use lib.ListN.{length};
+ghost use lib.ListN.{length, take, drop};
+ghost use Rattle.decimal.specs.Forms.{widthOf};
 ghost use Rattle.decimal.specs.Scan.{Fit};
 ghost use Rattle.decimal.specs.declared.Shape.the-variants.{Whole, Fixed, Expo};
 ghost use Rattle.bad_byte.specs.Columns.{badIn};
 ghost use Rattle.fields.specs.Shaped.{shapedAt};
-ghost use Rattle.fields.specs.Field.{fieldAt, fromWritten, refuse};
+ghost use Rattle.fields.specs.Field.{fieldAt, roughAt, badPlace, badly?, fromWritten, refuse};
 ghost use Rattle.fields.specs.Listed.{row, listed, listedField};
 
 // What a number field says: one signed whole number of units in the last written place with its
@@ -37,16 +38,14 @@ fn refused(number: u64, place: u64) -> Field
     Field::Refused(words::at_place(number, place))
 }
 
-// What is written in the bytes f at a place. Badly written is refusal 6 at the first bad byte, which is
-// looked for only then (document 02, No. 5).
-fn from_written(w: Written, f: &[u8], at: usize, shape: Shape) -> Field
-    requires { ⌜ at + length (now f) < 2 ^ 64 ⌝ }
-    ensures { λ r. ⌜ r ≡ fromWritten (at + badIn shape (now (f .entry))) w ⌝ }
+// Badly written is refusal 6, at the field's first byte so far.
+fn from_written(w: Written, at: usize) -> Field
+    ensures { λ r. ⌜ r ≡ fromWritten at w ⌝ }
 {
     match w {
         Written::Number(m, e) => Field::Value(m, e),
         Written::Blank => Field::Blank,
-        Written::Bad => refused(6, (at + bad_byte::place(f, shape)) as u64),
+        Written::Bad => refused(6, at as u64),
     }
 }
 
@@ -71,8 +70,7 @@ fn whole_at(bytes: &[u8], at: usize, n: usize) -> Field
         return refused(2, 0);
     }
     let end = at + n;
-    let w = decimal::whole(&bytes[at..end]);
-    from_written(w, &bytes[at..end], at, Shape::Whole)
+    from_written(decimal::whole(&bytes[at..end]), at)
 }
 
 // A number of n bytes with so many places at a place.
@@ -84,8 +82,7 @@ fn fixed_at(bytes: &[u8], at: usize, n: usize, places: usize) -> Field
         return refused(2, 0);
     }
     let end = at + n;
-    let w = decimal::fixed(&bytes[at..end], places);
-    from_written(w, &bytes[at..end], at, Shape::Fixed(places))
+    from_written(decimal::fixed(&bytes[at..end], places), at)
 }
 
 // A number of n bytes with so many places and an exponent at a place.
@@ -97,14 +94,13 @@ fn expo_at(bytes: &[u8], at: usize, n: usize, places: usize) -> Field
         return refused(2, 0);
     }
     let end = at + n;
-    let w = decimal::expo(&bytes[at..end], places);
-    from_written(w, &bytes[at..end], at, Shape::Expo(places))
+    from_written(decimal::expo(&bytes[at..end], places), at)
 }
 
-// What the field of this form at a place says. Each form's width and places stand here as numbers, so that
-// the compiler makes a reader of each and no table is looked into (docs/SPEED.md).
-pub fn field_at(bytes: &[u8], at: usize, form: Form) -> Field
-    ensures { λ r. ⌜ r ≡ fieldAt (now (bytes .entry)) at form ⌝ }
+// What the field of this form at a place says, but for the place of a 6. Each form's width and places stand
+// here as numbers, so that the compiler makes a reader of each and no table is looked into (docs/SPEED.md).
+fn rough_at(bytes: &[u8], at: usize, form: Form) -> Field
+    ensures { λ r. ⌜ r ≡ roughAt (now (bytes .entry)) at form ⌝ }
 {
     match form {
         Form::I4 => whole_at(bytes, at, 4),
@@ -115,6 +111,54 @@ pub fn field_at(bytes: &[u8], at: usize, form: Form) -> Field
         Form::F16d7 => fixed_at(bytes, at, 16, 7),
         Form::E20d13 => expo_at(bytes, at, 20, 13),
     }
+}
+
+// The place of the first bad byte of a field of n bytes at a place.
+fn spot(bytes: &[u8], at: usize, n: usize, shape: Shape) -> u64
+    requires { ⌜ at + n ≤ length (now bytes) ⌝ }
+    ensures { λ r. ⌜ r ≡ at + badIn shape (take n (drop at (now (bytes .entry)))) ⌝ }
+{
+    let end = at + n;
+    (at + bad_byte::place(&bytes[at..end], shape)) as u64
+}
+
+// The same of a field of this form.
+fn bad_at(bytes: &[u8], at: usize, form: Form) -> u64
+    requires { ⌜ at + widthOf form ≤ length (now bytes) ⌝ }
+    ensures { λ r. ⌜ r ≡ badPlace (now (bytes .entry)) at form ⌝ }
+{
+    match form {
+        Form::I4 => spot(bytes, at, 4, Shape::Whole),
+        Form::I6 => spot(bytes, at, 6, Shape::Whole),
+        Form::I8 => spot(bytes, at, 8, Shape::Whole),
+        Form::I16 => spot(bytes, at, 16, Shape::Whole),
+        Form::F8d3 => spot(bytes, at, 8, Shape::Fixed(3)),
+        Form::F16d7 => spot(bytes, at, 16, Shape::Fixed(7)),
+        Form::E20d13 => spot(bytes, at, 20, Shape::Expo(13)),
+    }
+}
+
+// The field is badly written.
+fn badly(f: Field) -> bool
+    ensures { λ r. ⌜ r ≡ badly? f ⌝ }
+{
+    match f {
+        Field::Value(_, _) => false,
+        Field::Blank => false,
+        Field::Refused(x) => x.number == 6,
+    }
+}
+
+// What the field of this form at a place says. The first bad byte (document 02, No. 5) is looked for behind
+// all else and only where there is one, so that nothing of it stands in the way of a good field.
+pub fn field_at(bytes: &[u8], at: usize, form: Form) -> Field
+    ensures { λ r. ⌜ r ≡ fieldAt (now (bytes .entry)) at form ⌝ }
+{
+    let f = rough_at(bytes, at, form);
+    if badly(f) {
+        return refused(6, bad_at(bytes, at, form));
+    }
+    f
 }
 
 // A row of the table.
