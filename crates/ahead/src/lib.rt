@@ -1,6 +1,8 @@
 // The lines of an image that pass one after the other (document 01, "The record and the walk"): their
 // turns differ in the line number alone, so the walk counts them at once. What a turn is does not depend
 // on it: `walk` shows that the count is that of the turns.
+#![tactic(auto)]
+
 ghost use Rattle.std.specs.Prelude.{◌≡◌, ◌+◌, ◌≤◌, length};
 ghost use Rattle.plan.specs.Plan.{line_codes, records_most};
 ghost use Rattle.verdicts.specs.Tests.{all_hold};

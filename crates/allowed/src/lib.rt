@@ -1,6 +1,8 @@
 // Which plans the rules allow: those that a first record of the kind can name. A state may be handed in
 // with any numbers, so all of them are tested: ranges, agreements, and 0 for what the kind does not use
 // (document 01, "The record and the walk", step 1).
+#![tactic(auto)]
+
 ghost use Rattle.std.specs.Prelude.{◌≡◌};
 ghost use Rattle.plan.specs.Plan.{all_zero, slots_zero?, image_zero?, zero_plan?, slot_good, slots_good};
 ghost use Rattle.plan.specs.Tables.{rows};

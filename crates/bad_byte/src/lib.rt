@@ -3,6 +3,8 @@
 //
 // The definition in specs/BadByte.antt is all that a reader must believe. The functions here go through a
 // field column by column: what may stand in one depends on how many follow it and on what stood before.
+#![tactic(auto)]
+
 ghost use Rattle.std.specs.Prelude.{◌≡◌, ◌≤◌, length};
 ghost use Rattle.bad_byte.specs.Columns.{column_of, point_column, exponent_column, pointed?, front?, early?, fits_of, sign_of};
 ghost use Rattle.bad_byte.specs.Columns.{from_blanks, from_sign, from_ink, next_of, wrong?, bad_in};
@@ -11,7 +13,7 @@ use decimal::Shape;
 
 // A column of a field: ahead of what its form demands; the digit that an I field ends with; the point;
 // a digit behind it; and the exponent's letter and sign.
-#[derive(Drop)]
+#[derive(Clone, Copy)]
 pub enum Column {
     Front,
     Unit,
@@ -23,7 +25,7 @@ pub enum Column {
 
 // What stood before a column: blanks alone, or a sign behind them and blanks behind that, or more. Or
 // bytes that begin no well-written field.
-#[derive(Drop)]
+#[derive(Clone, Copy)]
 pub enum Stage {
     Blanks,
     Behind,

@@ -2,6 +2,8 @@
 // texts, number fields, agreements), of the record that is due; and the plan's numbers that a first record
 // names, out of the same reading. Each kind's rules stand in a crate of their own; a trailer has only the
 // first record's text. Places are in the record, from 0.
+#![tactic(auto)]
+
 ghost use Rattle.std.specs.Prelude.{◌≡◌};
 ghost use Rattle.plan.specs.Plan.{volume, leader, image, trailer};
 ghost use Rattle.bodies.specs.Bodies.{body_of};
@@ -12,7 +14,7 @@ use verdicts::Verdict;
 
 // What was found in a record, and the plan behind it: a first record that is fine names one, and one that
 // is wrong none; behind any other record the plan is as it was.
-#[derive(Drop)]
+#[derive(Clone, Copy)]
 pub struct Found {
     pub verdict: Verdict,
     pub plan: Plan,

@@ -1,5 +1,7 @@
 // An answer of the reader as C gets it (include/seobangyu.h): five numbers. What every call shares; which
 // of a topic's answers is which reply stands beside the topic's calls (`c_walk`, `c_image`, ...).
+#![tactic(auto)]
+
 ghost use Rattle.std.specs.Prelude.{◌≡◌, ◌++◌, ◌≤◌, length, drop};
 ghost use Rattle.words.specs.Answer.{refused_as};
 ghost use Rattle.c_answer.specs.Reply.{five_of, reply_of};
@@ -10,7 +12,7 @@ use words::Refusal;
 pub const NUMBERS: usize = 5;
 
 // An answer as C gets it: which one it is, its numbers, and how many records a walk passed.
-#[derive(Drop)]
+#[derive(Clone, Copy)]
 pub struct Reply {
     pub tag: u64,
     pub a: u64,

@@ -1,5 +1,7 @@
 // The C boundary (include/seobangyu.h), cards: build, check, numbers. A call assumes nothing of what it is
 // handed: an answer array that is too short is answered with 0, and then nothing is written.
+#![tactic(auto)]
+
 ghost use Rattle.std.specs.Prelude.{◌≡◌, length};
 ghost use Rattle.cards.specs.Check.{check_of, numbers_of};
 ghost use Rattle.cards.specs.Said.{checked_as};

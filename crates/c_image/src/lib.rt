@@ -1,5 +1,7 @@
 // The C boundary (include/seobangyu.h), an image held from byte 0: line, row. A call assumes nothing of what
 // it is handed: an array that is too short is answered with 0, and then nothing is written.
+#![tactic(auto)]
+
 ghost use Rattle.std.specs.Prelude.{◌≡◌, length};
 ghost use Rattle.lines.specs.View.{view_of};
 ghost use Rattle.copies.specs.Row.{copied_of};

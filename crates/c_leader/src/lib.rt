@@ -1,5 +1,7 @@
 // The C boundary (include/seobangyu.h), what a leader file says: a listed field. A call assumes nothing of
 // what it is handed: an array that is too short is answered with 0, and then nothing is written.
+#![tactic(auto)]
+
 ghost use Rattle.std.specs.Prelude.{◌≡◌, ◌≤◌, length};
 ghost use Rattle.c_answer.specs.Reply.{reply_of};
 ghost use Rattle.c_answer.specs.Room.{answered};

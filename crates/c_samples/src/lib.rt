@@ -1,6 +1,8 @@
 // The C boundary (include/seobangyu.h), samples of an image's line: one sample, its power, a row of complex ones.
 // A call assumes nothing of what it is handed: an array that is too short is answered with 0, and then nothing
 // is written.
+#![tactic(auto)]
+
 ghost use Rattle.std.specs.Prelude.{◌≡◌, length};
 ghost use Rattle.samples.specs.Asked.{pattern_of, power_of};
 ghost use Rattle.samples.specs.Said.{patterned_as, powered_as};

@@ -1,5 +1,7 @@
 // The C boundary (include/seobangyu.h), the set check. A call assumes nothing of what it is handed: an array
 // that is too short is answered with 0, and then nothing is written.
+#![tactic(auto)]
+
 ghost use Rattle.std.specs.Prelude.{◌≡◌};
 ghost use Rattle.sets.specs.Set.{set_of};
 ghost use Rattle.sets.specs.Said.{agreement_as};

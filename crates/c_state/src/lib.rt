@@ -1,5 +1,7 @@
 // A walk's state as C holds it (include/seobangyu.h): 43 numbers, which any caller may keep and hand in
 // again. Any 43 numbers are a state; whether it is a good one is the walk's to say.
+#![tactic(auto)]
+
 ghost use Rattle.std.specs.Prelude.{◌≡◌, ◌++◌, ◌≤◌, length, drop};
 ghost use Rattle.c_state.specs.Numbers.{numbers_of, every_second, state_in};
 

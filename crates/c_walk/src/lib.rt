@@ -1,5 +1,7 @@
 // The C boundary (include/seobangyu.h), the walk: begin, walk, start. A call assumes nothing of what it is
 // handed: an array that is too short is answered with 0, and then nothing is written.
+#![tactic(auto)]
+
 ghost use Rattle.std.specs.Prelude.{◌≡◌};
 ghost use Rattle.walk.specs.Said.{stop_as, beginning_as};
 ghost use Rattle.c_answer.specs.Reply.{reply_of};

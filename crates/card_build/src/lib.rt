@@ -1,5 +1,7 @@
 // The card builder (document 02, No. 1): from a closed image and its closed leader the card that `cards`
 // reads. The image's refusal, the leader's, then 37; on any of them nothing is written.
+#![tactic(auto)]
+
 ghost use Rattle.std.specs.Prelude.{◌≡◌, true, ◌++◌, ◌+◌, ◌*◌, ◌≤◌, length};
 ghost use Rattle.words.specs.Tests.{within_of};
 ghost use Rattle.writing.specs.Writing.{written, four_of};
@@ -13,7 +15,7 @@ use walk::{State, Walked};
 use words::Refusal;
 
 // The card's bytes; or why there is none.
-#[derive(Drop)]
+#[derive(Clone, Copy)]
 pub enum Built {
     Bytes(u64),
     Refused(Refusal),

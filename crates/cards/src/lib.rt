@@ -1,5 +1,7 @@
 // A card (document 02, No. 1): the numbers of a scene in a file beside it, as entries: the image's, each
 // line's, each leader record's. Reads one, and says of any bytes what is first wrong with them as a card.
+#![tactic(auto)]
+
 ghost use Rattle.std.specs.Prelude.{◌≡◌, true, ◌+◌, ◌*◌, ◌≤◌, ◌<◌, ◌^◌, eqb, leb, length, drop};
 ghost use Rattle.words.specs.Tests.{both_of};
 ghost use Rattle.words.specs.Words.{four_at};
@@ -10,7 +12,7 @@ ghost use Rattle.cards.specs.Check.{lines_of, leaders_of, check_of, Few, pairs_f
 use words::Refusal;
 
 // A card, with so many lines and leader entries; or what is first wrong.
-#[derive(Drop)]
+#[derive(Clone, Copy)]
 pub enum Checked {
     Card(u64, u64),
     Refused(Refusal),
@@ -181,7 +183,7 @@ pub fn check(card: &[u8]) -> Checked
 }
 
 // Two numbers that stand one behind the other.
-#[derive(Drop)]
+#[derive(Clone, Copy)]
 struct Two {
     one: u64,
     two: u64,

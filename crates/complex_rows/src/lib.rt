@@ -1,5 +1,7 @@
 // The complex row copy (request No. 2): what the line view shows of complex samples, as patterns of 32 bits in a
 // row that the caller lends, two a sample.
+#![tactic(auto)]
+
 ghost use Rattle.std.specs.Prelude.{◌≡◌, ◌++◌, ◌+◌, ◌*◌, ◌≤◌, ◌%◌, ◌/◌, length, drop};
 ghost use Rattle.words.specs.Words.{four_at};
 ghost use Rattle.complex_rows.specs.Parts.{fours, parts, parts_copied_by, parts_row_by, parts_copied, parts_row};

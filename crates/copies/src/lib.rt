@@ -1,5 +1,7 @@
 // The row copy (document 01, "Lines, rows, sets"): what the line view shows, as 16-bit numbers in a row
 // that the caller lends.
+#![tactic(auto)]
+
 ghost use Rattle.std.specs.Prelude.{◌≡◌, ◌++◌, ◌+◌, ◌*◌, ◌≤◌, ◌%◌, ◌/◌, length, drop};
 ghost use Rattle.words.specs.Words.{two_at};
 ghost use Rattle.copies.specs.Row.{samples, copied_of, row_of};
@@ -8,7 +10,7 @@ use lines::View;
 use words::Refusal;
 
 // What the row copy answers: how many samples were copied; or a wait or a refusal, and nothing was.
-#[derive(Drop)]
+#[derive(Clone, Copy)]
 pub enum Copied {
     Done(u64),
     Wait(u64),

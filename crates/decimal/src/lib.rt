@@ -2,6 +2,8 @@
 //
 // The grammar in specs/Grammar.antt is all that a reader must believe. The functions here choose the
 // parts that a field of the form has, which `digits` reads, and put the number together.
+#![tactic(auto)]
+
 ghost use Rattle.std.specs.Prelude.{◌≡◌, ◌<◌, ◌^◌, length};
 ghost use Rattle.digits.specs.Segments.{Small};
 ghost use Rattle.decimal.specs.Forms.{width_of, shape_of};
@@ -11,7 +13,7 @@ ghost use Rattle.decimal.specs.Scan.{Fit, plain_of, scaled_of, decimal_of, writt
 use digits::Part;
 
 // The seven forms in use, as the sources write them: I4, I6, I8, I16, F8.3, F16.7, E20.13.
-#[derive(Drop)]
+#[derive(Clone, Copy)]
 pub enum Form {
     I4,
     I6,
@@ -24,7 +26,7 @@ pub enum Form {
 
 // What a field's bytes say: one signed whole number of units in the last written place, with the
 // exponent (0 for I and F); blank; or badly written.
-#[derive(Drop)]
+#[derive(Clone, Copy)]
 pub enum Written {
     Number(i64, i64),
     Blank,
@@ -32,7 +34,7 @@ pub enum Written {
 }
 
 // A form without its width: Iw, Fw.d with its places, E with its places.
-#[derive(Drop)]
+#[derive(Clone, Copy)]
 pub enum Shape {
     Whole,
     Fixed(usize),

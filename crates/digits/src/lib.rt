@@ -3,19 +3,21 @@
 //
 // Nobody need believe the definitions that these functions meet (specs/Segments.antt): `decimal` shows
 // that together they find what its grammar says.
+#![tactic(auto)]
+
 ghost use Rattle.std.specs.Prelude.{◌≡◌, ◌+◌, ◌-◌, ◌≤◌, ◌<◌, ◌^◌, false, true, length, get_or, take, drop};
 ghost use Rattle.std.proofs.Math.Seq.{slice};
 ghost use Rattle.digits.specs.Segments.{Skipped, Is, digits_of, signs, pointed_of, with_sign, mantissa_of, exponent_of};
 
 // Digits alone, or a byte that is none.
-#[derive(Drop)]
+#[derive(Clone, Copy)]
 pub enum Digits {
     Count(u64),
     Stray,
 }
 
 // A sign, true for minus, with digits; or a byte that no such part has there.
-#[derive(Drop)]
+#[derive(Clone, Copy)]
 pub enum Part {
     Signed(bool, u64),
     Wrong,

@@ -1,5 +1,7 @@
 // An entry (document 02, No. 1): one byte of kind, then a body whose length the kind fixes. The one
 // place that knows this layout; what kinds there are and what their bodies say is each reader's own.
+#![tactic(auto)]
+
 ghost use Rattle.std.specs.Prelude.{◌≡◌, ◌<◌, ◌^◌};
 ghost use Rattle.entry.specs.Entry.{kind_of, whole_of};
 

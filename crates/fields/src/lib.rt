@@ -1,6 +1,8 @@
 // Number fields of a record: what stands at a place, and the thirteen listed fields by their number
 // (document 01, "Listed fields"). A record's header is not judged here, and places count from the
 // first of the bytes handed over.
+#![tactic(auto)]
+
 ghost use Rattle.std.specs.Prelude.{◌≡◌, ◌<◌, ◌≤◌, ◌+◌, ltb, length, take, drop};
 ghost use Rattle.decimal.specs.Forms.{width_of};
 ghost use Rattle.decimal.specs.Scan.{Fit};
@@ -15,7 +17,7 @@ use words::Refusal;
 
 // What a number field says: one signed whole number of units in the last written place with its
 // exponent (0 for I and F), blank, or a refusal.
-#[derive(Drop)]
+#[derive(Clone, Copy)]
 pub enum Field {
     Value(i64, i64),
     Blank,
@@ -23,7 +25,7 @@ pub enum Field {
 }
 
 // A listed field: its first byte as document 01 counts, from 1, and its form.
-#[derive(Drop)]
+#[derive(Clone, Copy)]
 pub struct Listed {
     pub first: usize,
     pub form: Form,

@@ -2,11 +2,13 @@
 //
 // An f32 of this language has one NaN, so a NaN's pattern cannot be kept in one: who wants every
 // pattern's bits takes the pattern.
+#![tactic(auto)]
+
 ghost use Rattle.std.specs.Prelude.{◌≡◌};
 ghost use Rattle.floats.specs.Floats.{float_of, finite_of, squares, power_of};
 
 // The power of a complex sample: its pattern, or a part of the sample or the power is not finite.
-#[derive(Drop)]
+#[derive(Clone, Copy)]
 pub enum Power {
     Bits(u32),
     NotFinite,

@@ -1,5 +1,7 @@
 // A record's header (document 01, "The record and the walk", step 5): its first twelve bytes are the
 // sequence number, four codes and the length.
+#![tactic(auto)]
+
 ghost use Rattle.std.specs.Prelude.{◌≡◌, ◌≤◌, length};
 ghost use Rattle.verdicts.specs.Tests.{all_hold};
 ghost use Rattle.headers.specs.Header.{codes_are, header_tests, header_of};

@@ -1,5 +1,7 @@
 // The image's records (document 01, "First records and what they promise"): its descriptor with the
 // numbers that it names, each read once, and the lines. Places are in the record, from 0.
+#![tactic(auto)]
+
 ghost use Rattle.std.specs.Prelude.{◌≡◌, [], ◌∷◌, ◌<◌, ◌≤◌, ◌^◌, length};
 ghost use Rattle.words.specs.Words.{place_of};
 ghost use Rattle.verdicts.specs.Tests.{first_fault, all_hold, needed_of};
@@ -11,7 +13,7 @@ use fields::Field;
 use verdicts::Verdict;
 
 // What was found in a descriptor: nothing wrong, and the plan's numbers; or its first fault, and zeros.
-#[derive(Drop)]
+#[derive(Clone, Copy)]
 pub struct Described {
     pub verdict: Verdict,
     pub n: u64,
@@ -23,7 +25,7 @@ pub struct Described {
 }
 
 // A line's left fill, data and right fill counts.
-#[derive(Drop)]
+#[derive(Clone, Copy)]
 pub struct Fills {
     pub left: u64,
     pub data: u64,
@@ -31,7 +33,7 @@ pub struct Fills {
 }
 
 // The descriptor's number fields, by position; zeros where one is refused.
-#[derive(Drop)]
+#[derive(Clone, Copy)]
 struct Numbers {
     verdict: Verdict,
     values: [u64; 8],

@@ -1,6 +1,8 @@
 // The leader's records (document 01, "First records and what they promise"): its descriptor of fifteen
 // slot pairs and eleven facility pairs, with the counts and lengths that it puts into the plan, each read
 // once; and the listed fields of the summary and map records. Places are in the record, from 0.
+#![tactic(auto)]
+
 ghost use Rattle.std.specs.Prelude.{◌≡◌, ◌<◌, ◌≤◌};
 ghost use Rattle.verdicts.specs.Tests.{first_fault};
 ghost use Rattle.leader.specs.Leader.{slot_row, pair_row, put_at, PairRead, PairsRead, unnamed, described_of, fields_tests, leader_record};
@@ -11,7 +13,7 @@ use verdicts::Verdict;
 
 // A pair of count and length in the leader's descriptor: first byte, the length's form, and the row of
 // the plan that takes its numbers (`plan::ROWS` where the slot is not admitted).
-#[derive(Drop)]
+#[derive(Clone, Copy)]
 pub struct Pair {
     pub byte: usize,
     pub form: Form,
@@ -20,7 +22,7 @@ pub struct Pair {
 
 // What was found in a descriptor: nothing wrong, and the plan's counts and lengths; or its first fault,
 // and zeros.
-#[derive(Drop)]
+#[derive(Clone, Copy)]
 pub struct Described {
     pub verdict: Verdict,
     pub counts: [u64; plan::ROWS],
@@ -28,7 +30,7 @@ pub struct Described {
 }
 
 // What was found in a pair: its count and length, or its first fault and zeros.
-#[derive(Drop)]
+#[derive(Clone, Copy)]
 struct Held {
     verdict: Verdict,
     count: u64,

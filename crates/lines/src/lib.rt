@@ -1,6 +1,8 @@
 // What the page shows of an image that is held from byte 0 (document 01, "Lines, rows, sets"): the data
 // pixels of one line as a part of the caller's bytes. Earlier lines are not read: a line's place follows
 // from the plan.
+#![tactic(auto)]
+
 ghost use Rattle.std.specs.Prelude.{◌≡◌, ◌+◌, ◌*◌, ◌≤◌, length};
 ghost use Rattle.plan.specs.Plan.{image, first_codes, due_of, Placed};
 ghost use Rattle.headers.specs.Header.{header_of};
@@ -12,7 +14,7 @@ use words::Refusal;
 
 // What a line view answers: the place of its first data pixel in the file, the data count and the
 // left fill; or the bytes still missing; or why it is refused.
-#[derive(Drop)]
+#[derive(Clone, Copy)]
 pub enum View {
     Shown(u64, u64, u64),
     Wait(u64),
@@ -20,7 +22,7 @@ pub enum View {
 }
 
 // A view, and the sort of the samples that it shows; 0 where the first record has not passed.
-#[derive(Drop)]
+#[derive(Clone, Copy)]
 pub struct Sorted {
     pub sort: u64,
     pub view: View,

@@ -1,6 +1,8 @@
 // The listing of an image (document 01, "Lines, rows, sets"): standard input to rows. A turn says what
 // to print of the bytes held of the next record, or how many more it wants; what each row says is proved
 // here, how it is spelt in `rows`; `streams` reads and writes.
+#![tactic(auto)]
+
 ghost use Rattle.std.specs.Prelude.{◌≡◌};
 ghost use Rattle.plan.specs.Plan.{image};
 ghost use Rattle.walk.specs.State.{fresh};
@@ -14,14 +16,14 @@ use walk::State;
 const LONGEST: u64 = 32768;
 
 // What a turn says: so many more bytes are wanted; a row, and the listing goes on; its last row.
-#[derive(Drop)]
+#[derive(Clone, Copy)]
 pub enum Say {
     Want(u64),
     Next(Row),
     Last(Row),
 }
 
-#[derive(Drop)]
+#[derive(Clone, Copy)]
 pub struct Told {
     pub state: State,
     pub say: Say,

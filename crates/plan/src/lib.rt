@@ -1,6 +1,8 @@
 // What a file's first record promises: how many records there are, and of record k (from 0) what is
 // due: its ordinal, codes, length and start in the file. All of it is over (kind, plan, k) and knows
 // nothing of bytes (document 01, "First records and what they promise"; 000).
+#![tactic(auto)]
+
 ghost use Rattle.std.specs.Prelude.{◌≡◌, ℕ, ◌+◌, ◌<◌, ◌≤◌, get_or};
 ghost use Rattle.plan.specs.Tables.{rows, slot, facility, slot_of, codes, other_codes, sort, sort_of};
 ghost use Rattle.plan.specs.Plan.{zero_plan, run_counts, run_lengths, first_length, Small, Spotted, Placed};
@@ -27,7 +29,7 @@ pub const ROWS: usize = 17;
 // The plan's numbers: the pointer count (volume); count and length of slots 1, 2, 3, 4, 5, 7 and of
 // the eleven facility pairs (leader); lines n, record length L, pixels w, data bytes d, suffix s and
 // sort (image). Numbers that a kind does not use are 0.
-#[derive(Drop)]
+#[derive(Clone, Copy)]
 pub struct Plan {
     pub pointers: u64,
     pub counts: [u64; ROWS],
@@ -42,7 +44,7 @@ pub struct Plan {
 
 // Where record k stands: in the first record (run 0) or in which run of equal records, how long it
 // is, and where it starts in the file.
-#[derive(Drop)]
+#[derive(Clone, Copy)]
 pub struct Spot {
     pub run: u64,
     pub length: u64,
@@ -51,7 +53,7 @@ pub struct Spot {
 
 // The record that is due: its ordinal, which is its sequence number, its run (0 is the first record),
 // its codes, its length and where it starts in the file.
-#[derive(Drop)]
+#[derive(Clone, Copy)]
 pub struct Due {
     pub ordinal: u64,
     pub run: u64,
@@ -62,7 +64,7 @@ pub struct Due {
 
 // An image's sample sort: its text at 429, the bytes a group, the least bytes that go ahead of the
 // pixels, and its lines' second code byte.
-#[derive(Drop)]
+#[derive(Clone, Copy)]
 pub struct Sort {
     pub text: [u8; 4],
     pub group: u64,
@@ -71,7 +73,7 @@ pub struct Sort {
 }
 
 // The four code bytes of a record; the fourth may be any byte where it is free.
-#[derive(Drop)]
+#[derive(Clone, Copy)]
 pub struct Codes {
     pub one: u64,
     pub two: u64,
@@ -82,7 +84,7 @@ pub struct Codes {
 
 // A slot of the leader that is admitted, or a facility pair: its records' second code byte, whether
 // the fourth is free, and the ranges of its count and of its length.
-#[derive(Drop)]
+#[derive(Clone, Copy)]
 pub struct Slot {
     pub code: u64,
     pub free: bool,
@@ -93,7 +95,7 @@ pub struct Slot {
 }
 
 // The runs of equal records behind the first record.
-#[derive(Drop)]
+#[derive(Clone, Copy)]
 pub struct Runs {
     pub counts: [u64; ROWS],
     pub lengths: [u64; ROWS],

@@ -1,4 +1,6 @@
 // The rows of the listing of an image (document 01, "Lines, rows, sets"), and how each is spelt.
+#![tactic(auto)]
+
 ghost use Rattle.std.specs.Prelude.{◌≡◌, ◌+◌, ◌≤◌, length, take, drop};
 ghost use Rattle.io.specs.Counts.{IsPrefixLen};
 ghost use Rattle.rows.specs.Text.{with, text_of};
@@ -7,7 +9,7 @@ use words::Refusal;
 
 // A row of the listing: lines and pixels; a line's number and its left, data and right counts; L is
 // over 32,768; records and bytes; a refusal.
-#[derive(Drop)]
+#[derive(Clone, Copy)]
 pub enum Row {
     Image(u64, u64),
     Line(u64, u64, u64, u64),

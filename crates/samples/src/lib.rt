@@ -1,5 +1,7 @@
 // One sample of a line (request No. 2): a whole count, or two floats, real then imaginary; its patterns, and
 // its power. Asked of what the line view shows: the view's own wait or refusal comes first.
+#![tactic(auto)]
+
 ghost use Rattle.std.specs.Prelude.{◌≡◌, ◌+◌, ◌*◌, ◌≤◌, length};
 ghost use Rattle.samples.specs.Samples.{is_complex, group_of, clipped, pattern_at, stands_at, patterned_by, floated, sampled_by, on_power, powered_by};
 ghost use Rattle.samples.specs.Asked.{pattern_of, sample_of, power_of};
@@ -12,21 +14,21 @@ use words::Refusal;
 pub const COMPLEX: u64 = 1;
 
 // One sample: a whole count, or two floats, real then imaginary.
-#[derive(Drop)]
+#[derive(Clone, Copy)]
 pub enum Sample {
     Count(u16),
     Complex(f32, f32),
 }
 
 // The patterns of a complex sample's parts. A float cannot keep a NaN's bits; these are kept whatever they are.
-#[derive(Drop)]
+#[derive(Clone, Copy)]
 pub struct Pattern {
     pub re: u32,
     pub im: u32,
 }
 
 // What stands at a sample's place, bits kept; or the view's own wait or refusal, or 36.
-#[derive(Drop)]
+#[derive(Clone, Copy)]
 pub enum Patterned {
     Count(u16),
     Complex(Pattern),
@@ -35,7 +37,7 @@ pub enum Patterned {
 }
 
 // What the sample reader answers.
-#[derive(Drop)]
+#[derive(Clone, Copy)]
 pub enum Sampled {
     Sample(Sample),
     Wait(u64),
@@ -43,7 +45,7 @@ pub enum Sampled {
 }
 
 // What is said of a sample's power: its pattern; or the view's own wait or refusal, 23, 36 or 24.
-#[derive(Drop)]
+#[derive(Clone, Copy)]
 pub enum Powered {
     Power(u32),
     Wait(u64),

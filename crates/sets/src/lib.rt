@@ -1,5 +1,7 @@
 // The set check (document 01, "Lines, rows, sets"): the record counts of a product's files, in pointer
 // order, against the product's closed directory.
+#![tactic(auto)]
+
 ghost use Rattle.std.specs.Prelude.{◌≡◌, ◌≤◌, length};
 ghost use Rattle.sets.specs.Set.{differs, count_of, compare_from, set_of};
 
@@ -8,7 +10,7 @@ use walk::State;
 use words::Refusal;
 
 // The set agrees with its directory, or why not.
-#[derive(Drop)]
+#[derive(Clone, Copy)]
 pub enum Agreement {
     Agrees,
     Refused(Refusal),

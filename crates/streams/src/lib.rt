@@ -1,5 +1,7 @@
 // The listing over descriptors: reads no more than a turn of `listing` wants, one record at a time, and
 // prints what it says. No contract can say what a descriptor gives: what is promised here is that it ends.
+#![tactic(auto)]
+
 ghost use Rattle.std.specs.Prelude.{◌≡◌, ◌≤◌, length};
 
 use listing::Say;
@@ -8,7 +10,7 @@ use walk::State;
 
 // Where the listing stands: the state, how many bytes of the next record are held, whether the input
 // has ended, and whether to go on.
-#[derive(Drop)]
+#[derive(Clone, Copy)]
 struct Going {
     state: State,
     held: usize,

@@ -1,13 +1,15 @@
 // Commands for the programs that run examples: a line is one byte of operation, then numbers and a
 // text, as `f 12 4096` or `d 5:  90.000`. Nothing here is part of the reader; it is proved safe and
 // ending, and what it prints is compared with the stored output.
+#![tactic(auto)]
+
 ghost use Rattle.std.specs.Prelude.{◌≤◌, length};
 
 use libc::STDOUT_FILENO;
 use words::Refusal;
 
 // A number that was read, and the place behind it.
-#[derive(Drop)]
+#[derive(Clone, Copy)]
 pub struct Taken {
     pub value: u64,
     pub next: usize,

@@ -8,6 +8,8 @@
 //   r LENGTH LINE MANY OLD   the row copy to a row of MANY samples that were all OLD, at most 256; then
 //                            the whole row, so that a sample that had to stay is seen to
 //   s LENGTH COUNT COUNT ..  the set check of the first LENGTH bytes against at most 16 counts
+#![tactic(auto)]
+
 ghost use Rattle.std.specs.Prelude.{◌≤◌, length};
 
 use copies::Copied;

@@ -6,6 +6,8 @@
 //   l LENGTH PIECE   the listing of the first LENGTH bytes, as if they arrived in pieces of at most PIECE
 //                    bytes; as in streams::list no more arrive than a turn wants, and once none are left
 //                    the turn is asked again, closed
+#![tactic(auto)]
+
 use listing::Say;
 use rows::Row;
 use walk::State;
@@ -15,7 +17,7 @@ const TURNS: u64 = 262144;
 
 // Where a listing stands: the state, where the next record starts, how far the bytes have arrived,
 // whether they have ended, and whether to go on.
-#[derive(Drop)]
+#[derive(Clone, Copy)]
 struct Going {
     state: State,
     from: u64,

@@ -10,6 +10,8 @@
 //   a PLACE FORM LENGTH the field at PLACE (from 0) of the record's first LENGTH bytes
 //   2 PLACE LENGTH      the two bytes, and
 //   4 PLACE LENGTH      the four bytes from PLACE on, of the first LENGTH bytes
+#![tactic(auto)]
+
 use decimal::{Form, Written};
 use fields::Field;
 

@@ -12,6 +12,8 @@
 //   s                            the place of the next record's first byte
 //   v                            the state's 43 numbers
 //   n INDEX VALUE                one of them is set
+#![tactic(auto)]
+
 use try_commands::Taken;
 use turns::Stop;
 use walk::{Beginning, State, Walked};

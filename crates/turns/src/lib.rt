@@ -1,6 +1,8 @@
 // A turn of the walk, once its state is good and its budget is not used up (document 01, "The record and
 // the walk", steps 3 to 7): the record that is due is passed, waited for or refused. No state is kept or
 // moved here: what a turn needs of it is handed in.
+#![tactic(auto)]
+
 ghost use Rattle.std.specs.Prelude.{◌≡◌, ◌≤◌};
 ghost use Rattle.plan.specs.Plan.{run_counts, run_lengths, total_of, Small, Placed, records_most};
 ghost use Rattle.turns.specs.Turn.{Near, refused_at, ended_of, short_of, passed_of, judged_of};
@@ -11,7 +13,7 @@ use verdicts::Verdict;
 use words::Refusal;
 
 // Which stop it was: wait with the count of missing bytes, budget used up, all there, refused.
-#[derive(Drop)]
+#[derive(Clone, Copy)]
 pub enum Stop {
     Wait(u64),
     Pause,
@@ -20,14 +22,14 @@ pub enum Stop {
 }
 
 // What a turn says of the next record: it is passed, or the walk stops.
-#[derive(Drop)]
+#[derive(Clone, Copy)]
 pub enum Turn {
     Pass,
     Halt(Stop),
 }
 
 // What a turn says, and the plan behind it: a first record that passes names one.
-#[derive(Drop)]
+#[derive(Clone, Copy)]
 pub struct Judged {
     pub turn: Turn,
     pub plan: Plan,

@@ -1,6 +1,8 @@
 // A rule as a test with the fault that it names (document 01, "The record and the walk", step 7): a fixed
 // text, a number field by its form and range, a count. The verdict on a record is its first fault. A number
 // is read once: what is answered is the value, or the refusal. Places are in the record, from 0.
+#![tactic(auto)]
+
 ghost use Rattle.std.specs.Prelude.{◌≡◌, ◌+◌, ◌<◌, [], ◌∷◌, length};
 ghost use Rattle.words.specs.Words.{place_of};
 ghost use Rattle.verdicts.specs.Tests.{first_fault, text_at, text_test, fault_of, in_range, needed_of, counted_of, whole_in, whole_of};
@@ -12,7 +14,7 @@ use fields::Field;
 use words::Refusal;
 
 // What was found in a record: nothing wrong, or the first fault's number and its place in the record.
-#[derive(Drop)]
+#[derive(Clone, Copy)]
 pub enum Verdict {
     Fine,
     Fault(u64, u64),

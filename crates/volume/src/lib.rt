@@ -1,6 +1,8 @@
 // The volume directory's records (document 01, "First records and what they promise"): its descriptor
 // with the pointer count that it names, the pointers, and the text record. Places are in the record,
 // from 0.
+#![tactic(auto)]
+
 ghost use Rattle.std.specs.Prelude.{◌≡◌, [], ◌∷◌};
 ghost use Rattle.verdicts.specs.Tests.{first_fault, text_test, number_of};
 ghost use Rattle.verdicts.specs.Numbers.{number_at};
@@ -12,7 +14,7 @@ use fields::Field;
 use verdicts::Verdict;
 
 // What was found in a descriptor: nothing wrong, and the pointer count; or its first fault, and 0.
-#[derive(Drop)]
+#[derive(Clone, Copy)]
 pub struct Described {
     pub verdict: Verdict,
     pub pointers: u64,

@@ -1,6 +1,8 @@
 // The walk over a file's records (document 01, "The record and the walk"): a state that is handed in
 // and handed back, turns in the page's order, a record budget for each call. Whatever it is handed,
 // it ends with an answer; a refused or waiting record leaves the state before it.
+#![tactic(auto)]
+
 ghost use Rattle.std.specs.Prelude.{◌≡◌, ◌+◌, ◌≤◌, true};
 ghost use Rattle.plan.specs.Plan.{records_most};
 ghost use Rattle.walk.specs.State.{fresh, good_state, start_of};
@@ -12,7 +14,7 @@ use turns::{Stop, Turn};
 use words::Refusal;
 
 // The walk's state: file kind, records passed, and the plan taken from the file's first record.
-#[derive(Drop)]
+#[derive(Clone, Copy)]
 pub struct State {
     pub kind: u64,
     pub passed: u64,
@@ -20,7 +22,7 @@ pub struct State {
 }
 
 // A call's answer: the moved state, how many records this call passed, and why it stopped.
-#[derive(Drop)]
+#[derive(Clone, Copy)]
 pub struct Walked {
     pub state: State,
     pub count: u64,
@@ -28,13 +30,13 @@ pub struct Walked {
 }
 
 // What a begun walk answers: fresh, or refusal 1 for a kind that there is not.
-#[derive(Drop)]
+#[derive(Clone, Copy)]
 pub enum Beginning {
     Fresh,
     Unknown(Refusal),
 }
 
-#[derive(Drop)]
+#[derive(Clone, Copy)]
 pub struct Begun {
     pub state: State,
     pub answer: Beginning,

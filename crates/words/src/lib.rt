@@ -3,6 +3,8 @@
 //
 // Every function is total. A byte that is not there counts as 0 in these sums; no layer shows such a
 // sum to anybody, since each tests that its bytes have come before it reads them.
+#![tactic(auto)]
+
 ghost use Rattle.std.specs.Prelude.{◌≡◌, ◌+◌, ◌<◌, ◌≤◌, ◌^◌, eqb, length};
 ghost use Rattle.words.specs.Words.{byte_at, two_at, four_at, place_of};
 ghost use Rattle.words.specs.Tests.{both_of, within_of};
@@ -10,7 +12,7 @@ ghost use Rattle.words.specs.Answer.{refusal_at, bare_refusal};
 
 // Why something was refused: document 01's number, the record's ordinal (0 where none is named) and
 // the place, from 0.
-#[derive(Drop)]
+#[derive(Clone, Copy)]
 pub struct Refusal {
     pub number: u64,
     pub record: u64,

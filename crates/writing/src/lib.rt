@@ -1,6 +1,8 @@
 // What is written into bytes: a text, a number's digits, and a number of four bytes, most significant
 // byte first. Each is put over what stands from a place on, and every other byte of the buffer stays.
 // The caller has seen that there is room.
+#![tactic(auto)]
+
 ghost use Rattle.std.specs.Prelude.{◌≡◌, ◌+◌, ◌≤◌, length};
 ghost use Rattle.writing.specs.Writing.{written, numeral, four_of};
 

@@ -1,0 +1,21 @@
+-- Without room nothing is written; with it the answer is the power's.
+use Rattle.c_answer.proofs.RoomLaws as laws
+use Rattle.samples.specs.Said.{powered_as}
+use borrow.Author.Tests.{lt-leb, le-leb}
+use lib.ListN.{length}
+use Rattle.c_samples.proofs.sbg_power.Goals as goal
+
+pub returns-then-answer-lt-ANSWER : goal.returns-then-answer-lt-ANSWER
+returns-then-answer-lt-ANSWER c =
+    let f = lt-leb 5 (length c.args.answer.now) c.if-answer-lt-ANSWER.true in
+    record { value = laws.says_no _ f; answer_after = laws.stays _ _ _ f }
+
+pub returns : goal.returns
+returns c =
+    let args = c.args in
+    let t = le-leb 5 (length args.answer.now) c.if-answer-lt-ANSWER.false in
+    record {
+      value = laws.says_yes _ t;
+      answer_after = laws.answer_alone powered_as _ _ _ args.answer.now _ t c.power_at.ensures
+          c.power_reply.ensures c.say.ensures;
+    }

@@ -1,0 +1,13 @@
+-- One sample more each turn: the row so far is the samples written, then the old row behind them.
+use Prim.Native.Nat.{◌-◌, ◌≤◌}
+use mathlib.Core.Path.{◌≡◌}
+use mathlib.Core.List.{◌++◌}
+use lib.ListN.{length, drop}
+use Rattle.copies.specs.Row.{samples}
+use Rattle.copies.proofs.write.Given as goal
+
+abbrev pub invariant-loop-j : goal.invariant-loop-j
+invariant-loop-j l = (l.j ≤ l.count) × (l.row ≡ samples l.j l.px ++ drop l.j l.initial.row) × (length l.row ≡ length l.initial.row)
+
+abbrev pub decreases-loop-j : goal.decreases-loop-j
+decreases-loop-j l = l.count - l.j

@@ -1,0 +1,33 @@
+-- The bytes end before the field does, or its part of them is read as a number with places.
+use Prim.Native.Nat.{◌+◌}
+use mathlib.Core.Path.{sym, ap, ◌∙◌}
+use native.Mathlib.Omega.{arith}
+use lib.ListN.{length}
+use borrow.Author.Tests.{ltb-false}
+use Rattle.decimal.specs.declared.Shape.TheVariants.{Fixed}
+use Rattle.fields.specs.Field.{from_written}
+use Rattle.fields.proofs.Laws as laws
+use Rattle.fields.proofs.fixed_at.Goals as goal
+
+pub returns-then-short : goal.returns-then-short
+returns-then-short c =
+    let args = c.args in
+    c.refused.ensures ∙ sym (laws.shaped_short args.bytes.now args.at args.n (Fixed args.places)
+    (sym c.short.ensures ∙ c.if-short.true))
+
+pub overflow_add-end : goal.overflow_add-end
+overflow_add-end c =
+    let args = c.args in
+    omega (arith, ltb-false (length args.bytes.now) (args.at + args.n) (sym c.short.ensures ∙ c.if-short.false))
+
+pub slice_bounds-fixed-end : goal.slice_bounds-fixed-end
+slice_bounds-fixed-end c =
+    let args = c.args in
+    omega (arith, ltb-false (length args.bytes.now) (args.at + args.n) (sym c.short.ensures ∙ c.if-short.false))
+
+pub returns : goal.returns
+returns c =
+    let args = c.args in
+    c.from_written.ensures ∙ ap (from_written args.at) c.fixed.ensures
+    ∙ sym (laws.shaped_there args.bytes.now args.at args.n (Fixed args.places)
+    (sym c.short.ensures ∙ c.if-short.false))
