@@ -12,19 +12,19 @@ loop-i-init c = (omega arith, omega arith, search rules, search rules, c.require
 
 pub overflow_mul-result : goal.overflow_mul-result
 overflow_mul-result c = let l = c.loop-i in omega
-    (arith, laws.run_small l.left l.i c.args.t1 c.args.t2 l.invariant.4 (omega arith) (omega arith))
+    (arith, laws.run_small l.left l.i c.args.counts c.args.lengths l.invariant.4 (omega arith) (omega arith))
 
 pub overflow_add-result-then-left-c : goal.overflow_add-result-then-left-c
 overflow_add-result-then-left-c c = let l = c.loop-i in omega
-    (arith, laws.run_small l.left l.i c.args.t1 c.args.t2 l.invariant.4 (omega arith) (omega arith))
+    (arith, laws.run_small l.left l.i c.args.counts c.args.lengths l.invariant.4 (omega arith) (omega arith))
 
 pub returns-then-left-c : goal.returns-then-left-c
 returns-then-left-c c =
     let l = c.loop-i in
     let s = l.invariant.4 in
-    let a = laws.run_small l.left l.i c.args.t1 c.args.t2 s (omega arith) (omega arith) in
+    let a = laws.run_small l.left l.i c.args.counts c.args.lengths s (omega arith) (omega arith) in
     record {
-      value = sym (l.invariant.5 ∙ laws.spot_here l.i l.left l.start c.args.t1 c.args.t2 (omega arith)
+      value = sym (l.invariant.5 ∙ laws.spot_here l.i l.left l.start c.args.counts c.args.lengths (omega arith)
           (omega arith) c.if-left-c.true);
       spotted = record { run = omega arith; length = s.short l.i (omega arith); start = omega arith };
     }
@@ -44,11 +44,11 @@ loop-i-preserved c =
       l.invariant.3,
       l.invariant.4,
       l.invariant.5
-          ∙ laws.spot_next l.i l.left l.start c.args.t1 c.args.t2 (omega arith)
+          ∙ laws.spot_next l.i l.left l.start c.args.counts c.args.lengths (omega arith)
           (omega arith) c.if-left-c.false,
     )
 
 pub returns : goal.returns
 returns c =
     let l = c.loop-i in
-    record { value = sym (l.invariant.5 ∙ laws.spot_end l.i l.left l.start c.args.t1 c.args.t2 (omega arith)); spotted = record { run = omega arith; length = omega arith; start = omega arith } }
+    record { value = sym (l.invariant.5 ∙ laws.spot_end l.i l.left l.start c.args.counts c.args.lengths (omega arith)); spotted = record { run = omega arith; length = omega arith; start = omega arith } }

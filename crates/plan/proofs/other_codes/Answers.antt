@@ -30,4 +30,4 @@ unfolding other_codes
 returns-in-5 c = c.four_codes-in-5.ensures ∙ sym (ap other_codes c.in-5.is)
 
 pub returns-in_default : goal.returns-in_default
-returns-in_default c = c.four_codes-in_default.ensures ∙ sym (laws.other_none _ (omega (arith, c.in_default-own.rest)))
+returns-in_default c = c.four_codes-in_default.ensures ∙ sym (laws.other_none _ (omega arith))

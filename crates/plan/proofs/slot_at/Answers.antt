@@ -30,7 +30,7 @@ unfolding slot_of
 returns-in-5 c = c.slot_row-in-5.ensures ∙ sym (ap slot_of c.in-5.is)
 
 pub returns-in-6-to-16 : goal.returns-in-6-to-16
-returns-in-6-to-16 c = c.facility.ensures ∙ sym (laws.slot_facility _ (omega (arith, c.in_default-1.rest)) (omega (arith, c.if-i-lt17-own.true)))
+returns-in-6-to-16 c = c.facility.ensures ∙ sym (laws.slot_facility _ (omega arith) (omega arith))
 
 pub returns-in_default : goal.returns-in_default
-returns-in_default c = c.slot_row-in_default.ensures ∙ sym (laws.slot_none _ (omega (arith, c.if-i-lt17-own.false)))
+returns-in_default c = c.slot_row-in_default.ensures ∙ sym (laws.slot_none _ (omega arith))

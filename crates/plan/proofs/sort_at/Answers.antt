@@ -14,4 +14,4 @@ unfolding sort_of
 returns-in-1 c = c.sort_row-in-1.ensures ∙ sym (ap sort_of c.in-1.is)
 
 pub returns-in_default : goal.returns-in_default
-returns-in_default c = c.sort_row-in_default.ensures ∙ sym (laws.sort_none _ (omega (arith, c.in_default-own.rest)))
+returns-in_default c = c.sort_row-in_default.ensures ∙ sym (laws.sort_none _ (omega arith))

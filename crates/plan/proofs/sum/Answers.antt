@@ -25,4 +25,4 @@ loop-i-preserved c = let l = c.loop-i in (
 pub returns : goal.returns
 returns c =
     let l = c.loop-i in
-    record { value = sym (l.invariant.4 ∙ omega (arith, laws.sum_end c.args.t1 l.i (omega arith))); upper_bound = omega arith }
+    record { value = sym (l.invariant.4 ∙ omega (arith, laws.sum_end c.args.counts l.i (omega arith))); upper_bound = omega arith }
