@@ -1,6 +1,5 @@
 -- The lines found so far and those left to be found are as many as there are in all; the next one begins behind those found.
 use Rattle.ahead.proofs.LineLaws as laws
-use borrow.Author.Tests.{not-true, not-false}
 use native.Mathlib.Omega.{arith}
 use mathlib.Core.Path.{sym, ◌∙◌}
 use Prim.Native.Nat.{◌+◌, ◌-◌}
@@ -27,7 +26,7 @@ returns-then-not-line_fine c =
     args.most loop.c
     loop.at args.b.now
     loop.invariant.2 (omega arith) (sym line_fine_lem.ensures
-    ∙ not-true line_fine_lem.result c.if-not-line_fine.true)
+    ∙ c.if-not-line_fine.true)
 
 pub overflow_add-at : goal.overflow_add-at
 overflow_add-at c = omega (
@@ -36,7 +35,7 @@ overflow_add-at c = omega (
       c.args.l
       (c.args.k + c.loop-c.c)
       c.loop-c.at c.args.b.now
-      c.loop-c.invariant.1 (sym c.line_fine.ensures ∙ not-false c.line_fine.result c.if-not-line_fine.false),
+      c.loop-c.invariant.1 (sym c.line_fine.ensures ∙ c.if-not-line_fine.false),
 )
 
 pub loop-c-preserved : goal.loop-c-preserved
@@ -44,7 +43,7 @@ loop-c-preserved c =
     let line_fine_lem = c.line_fine in
     let args = c.args in
     let loop = c.loop-c in
-    let f = (sym line_fine_lem.ensures ∙ not-false line_fine_lem.result c.if-not-line_fine.false) in (
+    let f = (sym line_fine_lem.ensures ∙ c.if-not-line_fine.false) in (
       omega arith,
       laws.fine_room args.sort args.w
           args.l

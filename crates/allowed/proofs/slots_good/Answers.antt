@@ -3,7 +3,6 @@ use Prim.Native.Nat.{◌-◌}
 use mathlib.Core.Path.{refl, sym, ◌∙◌}
 use native.Mathlib.Omega.{arith}
 use borrow.Author.Rules.{rules}
-use borrow.Author.Tests.{not-true, not-false}
 use Rattle.plan.proofs.GoodLaws as laws
 use Rattle.allowed.proofs.slots_good.Goals as goal
 
@@ -13,7 +12,7 @@ loop-i-init c = (omega arith, search rules, search rules, refl)
 pub returns-then-not-slot_good : goal.returns-then-not-slot_good
 returns-then-not-slot_good c = let l = c.loop-i in sym (l.invariant.3
     ∙ laws.slots_bad l.i _ _ c.loop-i-test.true (sym c.slot_good.ensures
-    ∙ not-true c.slot_good.result c.if-not-slot_good.true))
+    ∙ c.if-not-slot_good.true))
 
 pub loop-i-preserved : goal.loop-i-preserved
 loop-i-preserved c = let l = c.loop-i in (
@@ -22,7 +21,7 @@ loop-i-preserved c = let l = c.loop-i in (
   l.invariant.2,
   l.invariant.3
       ∙ laws.slots_more l.i _ _ c.loop-i-test.true (sym c.slot_good.ensures
-      ∙ not-false c.slot_good.result c.if-not-slot_good.false),
+      ∙ c.if-not-slot_good.false),
 )
 
 pub returns : goal.returns

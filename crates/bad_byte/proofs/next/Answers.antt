@@ -7,19 +7,16 @@ pub returns-in-Blanks : goal.returns-in-Blanks
 returns-in-Blanks c =
     let from-blanks = c.from_blanks in
     let a = c.args in
-    let enum_told = c.enum_told-1 in
-    from-blanks.ensures ∙ ap (λ t. next_of a.gap t a.column a.c) (sym enum_told.given.1)
+    from-blanks.ensures ∙ ap (λ t. next_of a.gap t a.column a.c) (sym c.in-Blanks.is)
 
 pub returns-in-Behind : goal.returns-in-Behind
 returns-in-Behind c =
     let from-sign = c.from_sign in
     let a = c.args in
-    let enum-told2 = c.enum_told-in-Behind-1 in
-    from-sign.ensures ∙ ap (λ t. next_of a.gap t a.column a.c) (sym enum-told2.given.1)
+    from-sign.ensures ∙ ap (λ t. next_of a.gap t a.column a.c) (sym c.in-Behind.is)
 
 pub returns-in-Inked : goal.returns-in-Inked
 returns-in-Inked c =
     let from-ink = c.from_ink in
     let a = c.args in
-    let enum-told3 = c.enum_told-in-Inked-1 in
-    from-ink.ensures ∙ ap (λ t. next_of a.gap t a.column a.c) (sym enum-told3.given.1)
+    from-ink.ensures ∙ ap (λ t. next_of a.gap t a.column a.c) (sym c.in-Inked.is)

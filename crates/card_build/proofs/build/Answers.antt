@@ -17,9 +17,9 @@ returns-in-Refused-second c =
     let closed2 = c.closed-notes in
     let second = c.second-1 in
     record {
-      value = answer.leader_answer args.image.now args.leader.now args.card.now _ _ closed.ensures c.in_default-own.keys2
+      value = answer.leader_answer args.image.now args.leader.now args.card.now _ _ closed.ensures c.in_default.in_default-own.keys2
           closed2.ensures _ second.given.1;
-      card_after = answer.leader_card args.image.now args.leader.now args.card.now _ _ closed.ensures c.in_default-own.keys2
+      card_after = answer.leader_card args.image.now args.leader.now args.card.now _ _ closed.ensures c.in_default.in_default-own.keys2
           closed2.ensures _ second.given.1;
     }
 
@@ -29,7 +29,7 @@ fitted-requires c =
     let closed = c.closed-scene in
     let closed2 = c.closed-notes in
     answer.both_planned args.image.now args.leader.now args.card.now _ _ closed.ensures
-    c.in_default-own.keys2 closed2.ensures
+    c.in_default.in_default-own.keys2 closed2.ensures
 
 pub returns : goal.returns
 returns c =
@@ -40,9 +40,9 @@ returns c =
     let fitted = c.fitted in
     record {
       value = fitted.ensures.value ∙ answer.fitted_answer args.image.now args.leader.now args.card.now _ _ closed.ensures
-          c.in_default-own.keys2 closed2.ensures
+          c.in_default.in_default-own.keys2 closed2.ensures
           match2.keys2;
       card_after = fitted.ensures.card_after ∙ answer.fitted_card_lem args.image.now args.leader.now args.card.now _ _ closed.ensures
-          c.in_default-own.keys2 closed2.ensures
+          c.in_default.in_default-own.keys2 closed2.ensures
           match2.keys2;
     }

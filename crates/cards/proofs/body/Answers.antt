@@ -22,5 +22,5 @@ pub returns-in_default : goal.returns-in_default
 unfolding body_of
 returns-in_default c =
     let args = c.args in
-    let m = c.in_default-own.rest in
+    let m = c.in_default.in_default-own.rest in
     sym (rw (ne_eqb args.kind 1 (λ e. omega (arith, m)), ne_eqb args.kind 2 (λ e. omega (arith, m)), ne_eqb args.kind 3 (λ e. omega (arith, m))))

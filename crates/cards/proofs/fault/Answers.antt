@@ -3,7 +3,6 @@ use Prim.Native.Nat.{ℕ}
 use mathlib.Core.Bool.{true, false}
 use Rattle.entry.specs.Entry.{whole_of}
 use Rattle.cards.specs.Check.{body_of}
-use borrow.Author.Tests.{not-true, not-false}
 use mathlib.Core.Path.{sym, ap, ◌∙◌}
 use Rattle.cards.proofs.EntryLaws as laws
 use Rattle.cards.proofs.fault.Goals as goal
@@ -25,7 +24,7 @@ returns-then-not-whole c =
     let whole = c.whole in
     let long = body.ensures ∙ ap body_of kind.ensures in
     laws.fault_cut _ _ args.b.now if1.false (λ e. if2.false (long ∙ e))
-    (ap (λ (i : ℕ). whole_of i args.b.now) (sym long) ∙ sym whole.ensures ∙ not-true whole.result c.if-not-whole.true)
+    (ap (λ (i : ℕ). whole_of i args.b.now) (sym long) ∙ sym whole.ensures ∙ c.if-not-whole.true)
 
 pub returns-then-both : goal.returns-then-both
 returns-then-both c =
@@ -40,7 +39,7 @@ returns-then-both c =
     let both = c.both in
     let long = body.ensures ∙ ap body_of kind.ensures in
     laws.fault_by _ _ args.b.now if1.false (λ e. if2.false (long ∙ e)) true
-    (ap (λ (i : ℕ). whole_of i args.b.now) (sym long) ∙ sym whole.ensures ∙ not-false whole.result if3.false)
+    (ap (λ (i : ℕ). whole_of i args.b.now) (sym long) ∙ sym whole.ensures ∙ if3.false)
     (laws.due_is _ _ args.b.now _ kind.ensures is.ensures both.ensures ∙ c.if-both.true)
 
 pub returns : goal.returns
@@ -56,5 +55,5 @@ returns c =
     let both = c.both in
     let long = body.ensures ∙ ap body_of kind.ensures in
     laws.fault_by _ _ args.b.now if1.false (λ e. if2.false (long ∙ e)) false
-    (ap (λ (i : ℕ). whole_of i args.b.now) (sym long) ∙ sym whole.ensures ∙ not-false whole.result if3.false)
+    (ap (λ (i : ℕ). whole_of i args.b.now) (sym long) ∙ sym whole.ensures ∙ if3.false)
     (laws.due_is _ _ args.b.now _ kind.ensures is.ensures both.ensures ∙ c.if-both.false)

@@ -66,8 +66,8 @@ returns-in_default c = c.row-in_default.ensures
     (past 11 _ (past 10 _
     (past 9 _ (past 8 _ (past 7 _
     (past 6 _ (past 5 _ (past 4 _
-    (past 3 _ (past 2 _ (past 1 _ (past 0 _ zero-le c.in_default-own.rest.0.0.0.0.0.0.0.0.0.0.0.1)
-    c.in_default-own.rest.0.0.0.0.0.0.0.0.0.0.1) c.in_default-own.rest.0.0.0.0.0.0.0.0.0.1)
-    c.in_default-own.rest.0.0.0.0.0.0.0.0.1) c.in_default-own.rest.0.0.0.0.0.0.0.1) c.in_default-own.rest.0.0.0.0.0.0.1)
-    c.in_default-own.rest.0.0.0.0.0.1) c.in_default-own.rest.0.0.0.0.1) c.in_default-own.rest.0.0.0.1)
-    c.in_default-own.rest.0.0.1) c.in_default-own.rest.0.1) c.in_default-own.rest.1) c.requires))
+    (past 3 _ (past 2 _ (past 1 _ (past 0 _ zero-le c.in_default.in_default-own.rest.0.0.0.0.0.0.0.0.0.0.0.1)
+    c.in_default.in_default-own.rest.0.0.0.0.0.0.0.0.0.0.1) c.in_default.in_default-own.rest.0.0.0.0.0.0.0.0.0.1)
+    c.in_default.in_default-own.rest.0.0.0.0.0.0.0.0.1) c.in_default.in_default-own.rest.0.0.0.0.0.0.0.1) c.in_default.in_default-own.rest.0.0.0.0.0.0.1)
+    c.in_default.in_default-own.rest.0.0.0.0.0.1) c.in_default.in_default-own.rest.0.0.0.0.1) c.in_default.in_default-own.rest.0.0.0.1)
+    c.in_default.in_default-own.rest.0.0.1) c.in_default.in_default-own.rest.0.1) c.in_default.in_default-own.rest.1) c.requires))

@@ -74,6 +74,6 @@ unfolding image_row
 returns-in_default c = c.number-in_default.ensures
     ∙ sym (ap (λ (k : ℕ). number_field c.args.r.now (image_row c.args.sort k))
     (last _ (past 6 _ (past 5 _
-    (past 4 _ (past 3 _ (past 2 _ (past 1 _ (past 0 _ zero-le c.in_default-own.rest.0.0.0.0.0.0.1) c.in_default-own.rest.0.0.0.0.0.1)
-    c.in_default-own.rest.0.0.0.0.1) c.in_default-own.rest.0.0.0.1) c.in_default-own.rest.0.0.1) c.in_default-own.rest.0.1)
-    c.in_default-own.rest.1) c.requires))
+    (past 4 _ (past 3 _ (past 2 _ (past 1 _ (past 0 _ zero-le c.in_default.in_default-own.rest.0.0.0.0.0.0.1) c.in_default.in_default-own.rest.0.0.0.0.0.1)
+    c.in_default.in_default-own.rest.0.0.0.0.1) c.in_default.in_default-own.rest.0.0.0.1) c.in_default.in_default-own.rest.0.0.1) c.in_default.in_default-own.rest.0.1)
+    c.in_default.in_default-own.rest.1) c.requires))

@@ -13,7 +13,7 @@ pub text-requires : goal.text-requires
 text-requires c =
     let decimal = c.decimal-k in
     let k : decimal.result ≤ 20 = laws.few_digits _ _ (search rules) decimal.ensures.len in
-    let e = decimal.ensures.1.1 ∙ laws.numeral_is _ _ k decimal.ensures.len in
+    let e = decimal.ensures.digits ∙ laws.numeral_is _ _ k decimal.ensures.len in
     omega (arith, ap length e, c.requires)
 
 pub returns : goal.returns
@@ -21,5 +21,5 @@ returns c =
     let decimal = c.decimal-k in
     let args = c.args in
     let k : decimal.result ≤ 20 = laws.few_digits _ _ (search rules) decimal.ensures.len in
-    let e = decimal.ensures.1.1 ∙ laws.numeral_is _ _ k decimal.ensures.len in
+    let e = decimal.ensures.digits ∙ laws.numeral_is _ _ k decimal.ensures.len in
     record { out_after = c.text.ensures.out_after ∙ ap (written args.out.now args.at) e; value = c.text.ensures.value ∙ ap (λ (t : List ℕ). args.at + length t) e }

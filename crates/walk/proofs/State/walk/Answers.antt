@@ -11,7 +11,6 @@ use Rattle.walk.specs.Walk.{walk_of, more, stopped}
 use Rattle.walk.specs.State.{good_state}
 use Rattle.plan.specs.declared.Due.{Due}
 use lib.ListN.{length}
-use borrow.Author.Tests.{not-true, not-false}
 use native.Mathlib.Nat.{sub-zero}
 use native.Mathlib.Omega.{arith}
 use mathlib.Core.Bool.{true}
@@ -23,13 +22,13 @@ pub returns-then-not-good : goal.returns-then-not-good
 returns-then-not-good c = ap (λ (x : Stop). stopped c.args.self x) c.bad_stop.ensures
     ∙ sym (laws.walk_bad c.args.self c.args.bytes.now
     c.args.closed c.args.budget (sym c.good.ensures
-    ∙ not-true c.good.result c.if-not-good.true))
+    ∙ c.if-not-good.true))
 
 pub loop-n-init : goal.loop-n-init
 loop-n-init c = (
   omega arith,
   omega arith,
-  sym c.good.ensures ∙ not-false c.good.result c.if-not-good.false,
+  sym c.good.ensures ∙ c.if-not-good.false,
   laws.more_none (walk_of c.args.budget c.args.self c.args.bytes.now
       c.args.closed)
       ∙ ap (λ (f : ℕ). more 0
