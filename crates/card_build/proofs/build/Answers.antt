@@ -7,20 +7,18 @@ pub returns-in-Refused : goal.returns-in-Refused
 returns-in-Refused c =
     let args = c.args in
     let closed = c.closed-scene in
-    let first = c.first-1 in
-    record { value = answer.image_answer args.image.now args.leader.now args.card.now _ closed.result closed.ensures _ first.given.1; card_after = answer.image_card args.image.now args.leader.now args.card.now _ closed.result closed.ensures _ first.given.1 }
+    record { value = answer.image_answer args.image.now args.leader.now args.card.now _ closed.result closed.ensures _ c.in-Refused.is; card_after = answer.image_card args.image.now args.leader.now args.card.now _ closed.result closed.ensures _ c.in-Refused.is }
 
 pub returns-in-Refused-second : goal.returns-in-Refused-second
 returns-in-Refused-second c =
     let args = c.args in
     let closed = c.closed-scene in
     let closed2 = c.closed-notes in
-    let second = c.second-1 in
     record {
       value = answer.leader_answer args.image.now args.leader.now args.card.now _ _ closed.ensures c.in_default.in_default-own.keys2
-          closed2.ensures _ second.given.1;
+          closed2.ensures _ c.in-Refused-second.is;
       card_after = answer.leader_card args.image.now args.leader.now args.card.now _ _ closed.ensures c.in_default.in_default-own.keys2
-          closed2.ensures _ second.given.1;
+          closed2.ensures _ c.in-Refused-second.is;
     }
 
 pub fitted-requires : goal.fitted-requires

@@ -69,7 +69,6 @@ returns c =
     let four = c.four-n in
     let four2 = c.four in
     let lines = c.lines-every in
-    let enum_told = c.enum_told-1 in
     let card = args.card.now in
     let fine = ap (λ (t : Bool). fault_of 1 t card) (sym first_holds.ensures) ∙ sym fault.ensures ∙ if1.false in
     let e = lines.ensures ∙ ap₂ (λ (n w : ℕ). lines_of n 0 w 17 (drop 17 card)) four.ensures.value four2.ensures.value in
@@ -77,6 +76,6 @@ returns c =
     record {
       value = c.leaders.ensures.value
           ∙ ap (λ (n : ℕ). leaders_of (length card) n 0 0 (17 + 13 * n) (drop (17 + 13 * n) card)) four.ensures.value
-          ∙ laws.check_leaders card fine _ e _ _ enum_told.given.1;
+          ∙ laws.check_leaders card fine _ e _ _ c.in-Card.is;
       few = laws.few_more four.result 999999 _ (omega (arith, four.ensures.value, laws.first_few card t)) c.leaders.ensures.few;
     }

@@ -31,35 +31,31 @@ pub returns-then-out-n : goal.returns-then-out-n
 returns-then-out-n c =
     let args = c.args in
     let check = c.check-read in
-    let read = c.read-1 in
     let if1 = c.if-out-n in
-    record { value = ap Refused c.bare.ensures ∙ laws.short_answer args.card.now args.out.now _ check.ensures.value _ _ read.given.1 if1.true; out_after = laws.short_list args.card.now args.out.now _ check.ensures.value _ _ read.given.1 if1.true }
+    record { value = ap Refused c.bare.ensures ∙ laws.short_answer args.card.now args.out.now _ check.ensures.value _ _ c.in-Card.is if1.true; out_after = laws.short_list args.card.now args.out.now _ check.ensures.value _ _ c.in-Card.is if1.true }
 
 pub pairs-requires-2 : goal.pairs-requires-2
 pairs-requires-2 c =
     let check = c.check-read in
-    let read = c.read-1 in
     let if1 = c.if-out-n in
-    let few = check.ensures.few _ _ read.given.1 in omega (arith, few, if1.false)
+    let few = check.ensures.few _ _ c.in-Card.is in omega (arith, few, if1.false)
 
 pub pairs-requires-3 : goal.pairs-requires-3
 pairs-requires-3 c =
     let check = c.check-read in
-    let read = c.read-1 in
     let if1 = c.if-out-n in
-    let few = check.ensures.few _ _ read.given.1 in omega (arith, few, if1.false)
+    let few = check.ensures.few _ _ c.in-Card.is in omega (arith, few, if1.false)
 
 pub returns : goal.returns
 returns c =
     let args = c.args in
     let check = c.check-read in
-    let read = c.read-1 in
     let if1 = c.if-out-n in
     let pairs = c.pairs in
     let pairs2 = c.pairs-2 in
     let pairs3 = c.pairs-3 in
     record {
-      value = laws.card_answer args.card.now args.out.now _ check.ensures.value _ _ read.given.1 if1.false;
+      value = laws.card_answer args.card.now args.out.now _ check.ensures.value _ _ c.in-Card.is if1.false;
       out_after = laws.three_runs _ _ args.card.now args.out.now _ _ _ if1.false pairs.ensures pairs2.ensures pairs3.ensures
-          ∙ laws.card_list args.card.now args.out.now _ check.ensures.value _ _ read.given.1 if1.false;
+          ∙ laws.card_list args.card.now args.out.now _ check.ensures.value _ _ c.in-Card.is if1.false;
     }

@@ -11,37 +11,33 @@ pub returns-then-x-ne-COUNTS : goal.returns-then-x-ne-COUNTS
 returns-then-x-ne-COUNTS c =
     let args = c.args in
     let sorted-view = c.sorted_view-x in
-    let v3 = c.v-in-Shown-1 in
     let if1 = c.if-x-ne-COUNTS in
-    let h = laws.copy_sort args.bytes.now args.k args.row.now _ sorted-view.ensures _ _ _ v3.given.1 if1.true in
+    let h = laws.copy_sort args.bytes.now args.k args.row.now _ sorted-view.ensures _ _ _ c.in-Shown.is if1.true in
     record { value = ap Refused c.bare.ensures ∙ h.0; row_after = h.1 }
 
 pub returns-then-row-count : goal.returns-then-row-count
 returns-then-row-count c =
     let args = c.args in
     let sorted-view = c.sorted_view-x in
-    let v3 = c.v-in-Shown-1 in
     let if1 = c.if-x-ne-COUNTS in
     let if2 = c.if-row-count in
     let h = laws.copy_short args.bytes.now args.k args.row.now _ sorted-view.ensures _ _ _
-    v3.given.1 if1.false if2.true in
+    c.in-Shown.is if1.false if2.true in
     record { value = ap Refused c.bare-then-row-count.ensures ∙ h.0; row_after = h.1 }
 
 pub overflow_add-to : goal.overflow_add-to
 overflow_add-to c =
     let args = c.args in
     let sorted-view = c.sorted_view-x in
-    let v3 = c.v-in-Shown-1 in
     let if1 = c.if-x-ne-COUNTS in
-    let h = laws.counts_within args.bytes.now args.k _ sorted-view.ensures _ _ _ v3.given.1 if1.false in search rules
+    let h = laws.counts_within args.bytes.now args.k _ sorted-view.ensures _ _ _ c.in-Shown.is if1.false in search rules
 
 pub slice_bounds-write-end : goal.slice_bounds-write-end
 slice_bounds-write-end c =
     let args = c.args in
     let sorted-view = c.sorted_view-x in
-    let v3 = c.v-in-Shown-1 in
     let if1 = c.if-x-ne-COUNTS in
-    laws.counts_within args.bytes.now args.k _ sorted-view.ensures _ _ _ v3.given.1 if1.false
+    laws.counts_within args.bytes.now args.k _ sorted-view.ensures _ _ _ c.in-Shown.is if1.false
 
 pub returns-in-Wait : goal.returns-in-Wait
 returns-in-Wait c =
@@ -59,15 +55,14 @@ pub returns-else-row-count : goal.returns-else-row-count
 returns-else-row-count c =
     let args = c.args in
     let sorted-view = c.sorted_view-x in
-    let v3 = c.v-in-Shown-1 in
     let if1 = c.if-x-ne-COUNTS in
     let if2 = c.if-row-count in
     let write = c.write in
     let h = laws.copy_done args.bytes.now args.k args.row.now _
     sorted-view.ensures _ _ _
-    v3.given.1 if1.false if2.false _
-    (views.part_is v3.given.0.0
-    (2 * v3.given.0.1.0) args.bytes.now) in
+    c.in-Shown.is if1.false if2.false _
+    (views.part_is c.in-Shown.start
+    (2 * c.in-Shown.count) args.bytes.now) in
     record {
       value = h.0;
       row_after = write.ensures

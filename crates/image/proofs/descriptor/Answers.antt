@@ -15,52 +15,44 @@ pub returns-in_default : goal.returns-in_default
 returns-in_default c =
     let args = c.args in
     let texts = c.texts-text in
-    let enum-told2 = c.enum_told-in_default-1 in
-    c.unnamed.ensures ∙ laws.text_fault args.r.now texts.ensures enum-told2.given.1
+    c.unnamed.ensures ∙ laws.text_fault args.r.now texts.ensures c.in_default.is
 
 pub returns-in_default-form : goal.returns-in_default-form
 returns-in_default-form c =
     let args = c.args in
     let read-numbers = c.read_numbers-x in
     let texts = c.texts-text in
-    let enum_told = c.enum_told-1 in
     let sort-of = c.sort_of-sort in
-    let enum-told4 = c.enum_told-in_default-form-1 in
     let r = args.r.now in
     let x = read-numbers.result in
-    c.unnamed-in_default-form.ensures ∙ laws.number_fault r texts.ensures enum_told.given.1 x
-    (subst (λ (i : ℕ). Read i r x) sort-of.ensures read-numbers.ensures) enum-told4.given.1
+    c.unnamed-in_default-form.ensures ∙ laws.number_fault r texts.ensures c.in-Fine.is x
+    (subst (λ (i : ℕ). Read i r x) sort-of.ensures read-numbers.ensures) c.in_default-form.is
 
 pub agree-agreed-requires : goal.agree-agreed-requires
 agree-agreed-requires c =
     let args = c.args in
     let read-numbers = c.read_numbers-x in
     let texts = c.texts-text in
-    let enum_told = c.enum_told-1 in
     let sort-of = c.sort_of-sort in
-    let enum-told3 = c.enum_told-in-Fine-form-1 in
     let r = args.r.now in
     let x = read-numbers.result in
-    laws.values_in r texts.ensures enum_told.given.1 x (subst (λ (i : ℕ). Read i r x) sort-of.ensures read-numbers.ensures)
-    enum-told3.given.1
+    laws.values_in r texts.ensures c.in-Fine.is x (subst (λ (i : ℕ). Read i r x) sort-of.ensures read-numbers.ensures)
+    c.in-Fine-form.is
 
 pub returns-in_default-agreed : goal.returns-in_default-agreed
 returns-in_default-agreed c =
     let args = c.args in
     let read-numbers = c.read_numbers-x in
     let texts = c.texts-text in
-    let enum_told = c.enum_told-1 in
     let sort-of = c.sort_of-sort in
-    let enum-told3 = c.enum_told-in-Fine-form-1 in
     let agree = c.agree-agreed in
-    let enum-told6 = c.enum_told-in_default-agreed-1 in
     let r = args.r.now in
     let x = read-numbers.result in
     let a = x.values in
-    c.unnamed-in_default-agreed.ensures ∙ laws.agree_fault r texts.ensures enum_told.given.1 x
-    (subst (λ (i : ℕ). Read i r x) sort-of.ensures read-numbers.ensures) enum-told3.given.1
+    c.unnamed-in_default-agreed.ensures ∙ laws.agree_fault r texts.ensures c.in-Fine.is x
+    (subst (λ (i : ℕ). Read i r x) sort-of.ensures read-numbers.ensures) c.in-Fine-form.is
     (agree.ensures ∙ ap (λ (i : ℕ). first_fault (agree_tests i (get_or a 0 0) (get_or a 1 0) (get_or a 4 0) (get_or a 5 0) (get_or a 6 0) (get_or a 7 0)))
-    sort-of.ensures) enum-told6.given.1
+    sort-of.ensures) c.in_default-agreed.is
 
 pub returns : goal.returns
 returns c =
@@ -68,8 +60,6 @@ returns c =
     let read-numbers = c.read_numbers-x in
     let sort-of = c.sort_of-sort in
     let texts = c.texts-text in
-    let enum_told = c.enum_told-1 in
-    let enum-told3 = c.enum_told-in-Fine-form-1 in
     let agree = c.agree-agreed in
     let r = args.r.now in
     let x = read-numbers.result in
@@ -82,7 +72,7 @@ returns c =
       d = get_or a 6 0;
       s = get_or a 7 0;
       sort = i;
-    }) sort-of.ensures ∙ laws.all_named r texts.ensures enum_told.given.1 x
-    (subst (λ (i : ℕ). Read i r x) sort-of.ensures read-numbers.ensures) enum-told3.given.1
+    }) sort-of.ensures ∙ laws.all_named r texts.ensures c.in-Fine.is x
+    (subst (λ (i : ℕ). Read i r x) sort-of.ensures read-numbers.ensures) c.in-Fine-form.is
     (agree.ensures ∙ ap (λ (i : ℕ). first_fault (agree_tests i (get_or a 0 0) (get_or a 1 0) (get_or a 4 0) (get_or a 5 0) (get_or a 6 0) (get_or a 7 0)))
     sort-of.ensures) c.in-Fine-agreed.is

@@ -29,8 +29,7 @@ returns c =
     let sort-at = c.sort_at-row in
     let pre = c.requires in
     let first-text = c.first_text-ab in
-    let enum_told = c.enum_told-1 in
     let r = args.r.now in
     c.fixed.ensures
     ∙ ap (λ (t : List ℕ). first_fault (text_test r 429 t ∷ [])) (ap (λ (s : Sort). s.text) sort-at.ensures ∙ ap (λ (i : ℕ). (sort_of i).text) (pre))
-    ∙ sym (laws.passed (first_text r ∷ []) (text_test r 429 (sort_of (sort_in r)).text ∷ []) first-text.ensures enum_told.given.1)
+    ∙ sym (laws.passed (first_text r ∷ []) (text_test r 429 (sort_of (sort_in r)).text ∷ []) first-text.ensures c.in-Fine.is)

@@ -26,38 +26,34 @@ overflow_mul-to c =
     let args = c.args in
     let sort-at = c.sort_at-group in
     let sorted-view = c.sorted_view-x in
-    let v = c.v-1 in
     let h = within args.bytes.now args.k _ _ _ _ (ap (λ (s : Sort). s.group) sort-at.ensures ∙ ap (λ (x : Sorted). (sort_of x.sort).group)
     sorted-view.ensures)
-    (sym (ap (λ (x : Sorted). x.view) sorted-view.ensures) ∙ v.given.1) in search rules
+    (sym (ap (λ (x : Sorted). x.view) sorted-view.ensures) ∙ c.in-Shown.is) in search rules
 
 pub overflow_add-to : goal.overflow_add-to
 overflow_add-to c =
     let args = c.args in
     let sort-at = c.sort_at-group in
     let sorted-view = c.sorted_view-x in
-    let v = c.v-1 in
     let h = within args.bytes.now args.k _ _ _ _ (ap (λ (s : Sort). s.group) sort-at.ensures ∙ ap (λ (x : Sorted). (sort_of x.sort).group)
     sorted-view.ensures)
-    (sym (ap (λ (x : Sorted). x.view) sorted-view.ensures) ∙ v.given.1) in search rules
+    (sym (ap (λ (x : Sorted). x.view) sorted-view.ensures) ∙ c.in-Shown.is) in search rules
 
 pub slice_bounds-result-end-2 : goal.slice_bounds-result-end-2
 slice_bounds-result-end-2 c =
     let args = c.args in
     let sort-at = c.sort_at-group in
     let sorted-view = c.sorted_view-x in
-    let v = c.v-1 in
     within args.bytes.now args.k _ _ _ _ (ap (λ (s : Sort). s.group) sort-at.ensures ∙ ap (λ (x : Sorted). (sort_of x.sort).group)
     sorted-view.ensures)
-    (sym (ap (λ (x : Sorted). x.view) sorted-view.ensures) ∙ v.given.1)
+    (sym (ap (λ (x : Sorted). x.view) sorted-view.ensures) ∙ c.in-Shown.is)
 
 pub returns : goal.returns
 returns c =
     let args = c.args in
     let sorted-view = c.sorted_view-x in
     let sort-at = c.sort_at-group in
-    let v = c.v-1 in
     views.pixels_shown args.bytes.now
     args.k _ (ap (λ (x : Sorted). x.view) sorted-view.ensures)
     _ (ap (λ (s : Sort). s.group) sort-at.ensures ∙ ap (λ (x : Sorted). (sort_of x.sort).group) sorted-view.ensures) _ _ _
-    v.given.1
+    c.in-Shown.is

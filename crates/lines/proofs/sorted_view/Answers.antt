@@ -27,8 +27,7 @@ returns-then-len-lt720 c =
     let bs = args.bytes.now in
     let twelve = c.if-len-lt12.false in
     let header = c.first_header-h in
-    let told = c.enum_told-1 in
-    let head = sym header.ensures ∙ told.given.1 in
+    let head = sym header.ensures ∙ c.in_default.is in
     c.missing-then-len-lt720.ensures ∙ sym (first.view_cut bs twelve head args.k c.if-len-lt720.true)
 
 pub slice_bounds-of_image-end : goal.slice_bounds-of_image-end
@@ -40,8 +39,7 @@ returns-in-Fault-verdict c =
     let bs = args.bytes.now in
     let twelve = c.if-len-lt12.false in
     let header = c.first_header-h in
-    let told = c.enum_told-1 in
-    let head = sym header.ensures ∙ told.given.1 in
+    let head = sym header.ensures ∙ c.in_default.is in
     let whole = c.if-len-lt720.false in
     let x = c.of_image-x in
     let verdict = ap (λ (x : Found). x.verdict) x.ensures in
@@ -53,8 +51,7 @@ line-requires c =
     let bs = args.bytes.now in
     let twelve = c.if-len-lt12.false in
     let header = c.first_header-h in
-    let told = c.enum_told-1 in
-    let head = sym header.ensures ∙ told.given.1 in
+    let head = sym header.ensures ∙ c.in_default.is in
     let whole = c.if-len-lt720.false in
     let x = c.of_image-x in
     let verdict = ap (λ (x : Found). x.verdict) x.ensures in
@@ -65,18 +62,16 @@ returns c =
     let args = c.args in
     let if1 = c.if-len-lt12 in
     let first-header = c.first_header-h in
-    let enum_told = c.enum_told-1 in
     let if2 = c.if-len-lt720 in
     let of_image = c.of_image-x in
-    let enum-told2 = c.enum_told-in_default-verdict-1 in
     let bs = args.bytes.now in
     let twelve = if1.false in
     let header = first-header in
-    let told = enum_told in
+    let told = c.enum_told-1 in
     let head = sym header.ensures ∙ told.given.1 in
     let whole = if2.false in
     let x = of_image in
     let verdict = ap (λ (x : Found). x.verdict) x.ensures in
     ap (λ (v : View). record { sort = x.result.plan.sort; view = v }) c.line.ensures ∙ ap (λ (x : Found). first.under_plan x.plan args.k bs)
     x.ensures
-    ∙ sym (first.fine_view bs twelve head whole (sym verdict ∙ enum-told2.given.1) args.k)
+    ∙ sym (first.fine_view bs twelve head whole (sym verdict ∙ c.in_default-verdict.is) args.k)

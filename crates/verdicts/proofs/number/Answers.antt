@@ -29,16 +29,15 @@ overflow_add-first c =
 pub returns-in-Value : goal.returns-in-Value
 returns-in-Value c =
     let a = c.args in
-    let v = c.v-1 in
     let in_range_lem = c.in_range in
     let place = c.place-first in
     let field = c.field in
-    let z : to_z w64 (of_z w64 v.given.0.0) ≡ v.given.0.0 = search rules in
-    let y : to_z w64 (of_z w64 v.given.0.1.0) ≡ v.given.0.1.0 = search rules in
-    in_range_lem.ensures ∙ ap₂ (λ (v e : ℤ). in_range v e place.result a.least a.most) z y
-    ∙ ap (λ p. in_range v.given.0.0 v.given.0.1.0 p a.least a.most) place.ensures
+    let z : to_z w64 (of_z w64 c.in-Value.v) ≡ c.in-Value.v = search rules in
+    let y : to_z w64 (of_z w64 c.in-Value.e) ≡ c.in-Value.e = search rules in
+    in_range_lem.ensures ∙ ap₂ (λ (c.v-1 e : ℤ). in_range c.v-1 e place.result a.least a.most) z y
+    ∙ ap (λ p. in_range c.in-Value.v c.in-Value.e p a.least a.most) place.ensures
     ∙ laws.needed_value (place_of a.byte) (last_of a.byte a.form) a.least a.most (at a.r.now a.byte a.form) _ _
-    (sym field.ensures ∙ v.given.1)
+    (sym field.ensures ∙ c.in-Value.is)
 
 pub returns-in-Blank : goal.returns-in-Blank
 returns-in-Blank c =
