@@ -27,8 +27,8 @@ returns c =
     c.both-2.ensures
     ∙ ap₂ both_of (is.ensures ∙ ap (λ (n : ℕ). eqb n (args.k + 1)) four_there_lem.ensures.value)
     (both.ensures
-    ∙ ap₂ both_of (is2.ensures ∙ ap₂ eqb four-there2.ensures.0 pre.0 ∙ codes_held b args.sort (omega (arith, byte 4)) (omega (arith, byte 5))
+    ∙ ap₂ both_of (is2.ensures ∙ ap₂ eqb four-there2.ensures.value pre.0 ∙ codes_held b args.sort (omega (arith, byte 4)) (omega (arith, byte 5))
     (omega (arith, byte 6))
     (omega (arith, byte 7)))
-    (is3.ensures ∙ ap (λ (n : ℕ). eqb n args.l) four-there3.ensures.0))
+    (is3.ensures ∙ ap (λ (n : ℕ). eqb n args.l) four-there3.ensures.value))
     ∙ all_three _ _ _

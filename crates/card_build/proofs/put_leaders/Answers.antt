@@ -60,7 +60,7 @@ loop-k-preserved c =
       search rules,
       loop.invariant.3 ∙ laws.leaders_next args.records loop.k loop.to args.q loop.out _ loop-test.true
           (omega (arith, pre.records_bound.1, loop.invariant.1, loop.invariant.2))
-          (put-leader.ensures ∙ ap (λ (x : Due). written loop.out loop.to (leader_bytes (loop.k + 1) x.start x.length)) due-of.ensures.0),
+          (put-leader.ensures ∙ ap (λ (x : Due). written loop.out loop.to (leader_bytes (loop.k + 1) x.start x.length)) due-of.ensures.value),
     )
 
 pub shape_of-out : goal.shape_of-out
