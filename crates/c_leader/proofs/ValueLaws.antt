@@ -6,10 +6,7 @@ use mathlib.Core.Logic.{⊎_elim}
 use native.Mathlib.Omega.{arith}
 use lib.IntN.{ℤ}
 use lib.ListN.{length, set, drop}
-use types.Run.{OneOf}
-use denote.Enum.Declared.{tag_of}
 use Rattle.fields.specs.declared.Field.{Field}
-use Rattle.fields.specs.contracts.Field.{the_type}
 use Rattle.fields.specs.declared.Field.TheVariants.{Value, Blank, Refused}
 use Rattle.c_leader.specs.Calls.{value_by}
 
@@ -20,7 +17,7 @@ two_set m m' e e' (x₁ ∷ []) p q h = absurd (omega arith)
 two_set m m' e e' (x₁ ∷ x₂ ∷ old) p q h = ap (λ x. x ∷ e' ∷ old) p ∙ ap (λ x. m ∷ x ∷ old) q
 
 -- a field that is no value leaves the value array as it is
-pub value_stays : (x : Field) (v : List ℤ) → OneOf (1 ∷ 2 ∷ []) (tag_of the_type x) → v ≡ value_by x v
-value_stays (Value m e) v k = absurd (⊎_elim (λ q. omega arith) (λ q. omega arith) k)
+pub value_stays : (x : Field) (v : List ℤ) → ((m e : ℤ) → x ≡ Value m e → ⊥) → v ≡ value_by x v
+value_stays (Value m e) v k = absurd (k m e refl)
 value_stays Blank v k = refl
 value_stays (Refused r) v k = refl

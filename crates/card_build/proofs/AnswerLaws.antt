@@ -6,8 +6,6 @@ use mathlib.Core.Bool.{true}
 use mathlib.Core.Logic.{⊎_elim}
 use native.Mathlib.Omega.{arith}
 use lib.ListN.{length, get_or}
-use types.Run.{OneOf}
-use denote.Enum.Declared.{tag_of}
 use borrow.Author.Tests.{lt-ltb, le-ltb}
 use Rattle.words.specs.Answer.{bare_refusal}
 use Rattle.words.specs.declared.Refusal.{Refusal}
@@ -19,7 +17,6 @@ use Rattle.walk.specs.declared.State.{State}
 use Rattle.walk.specs.declared.Walked.{Walked}
 use Rattle.turns.specs.declared.Stop.{Stop}
 use Rattle.turns.specs.declared.Stop.TheVariants.{Wait, Pause, Complete, Refused as Refused'}
-use Rattle.turns.specs.contracts.Stop.{the_type}
 use Rattle.walk.proofs.GoodLaws.{ready, fresh_good}
 use Rattle.walk.proofs.KeptLaws.{good_kept, kind_kept}
 use Rattle.card_build.specs.Build.{closed, card_bytes, card_long, fitted_of, fitted_card, Planned}
@@ -64,17 +61,17 @@ planned bs ls =
     let f = few_lines (image_plan bs) (small_kind image bs (omega arith) (omega arith)) in
     record { lines = f.0; short = f.1; small = small_kind leader ls (omega arith) (omega arith) }
 
-pub built_on : (x : Stop) (a : Built) → OneOf (0 ∷ 1 ∷ 2 ∷ []) (tag_of the_type x) → built_behind x a ≡ a
+pub built_on : (x : Stop) (a : Built) → ((r : Refusal) → x ≡ Refused' r → ⊥) → built_behind x a ≡ a
 built_on (Wait n) a o = refl
 built_on Pause a o = refl
 built_on Complete a o = refl
-built_on (Refused' r) a o = absurd (⊎_elim (λ e. omega arith) (⊎_elim (λ e. omega arith) (λ e. omega arith)) o)
+built_on (Refused' r) a o = absurd (o r refl)
 
-pub card_on : (x : Stop) (old new : List ℕ) → OneOf (0 ∷ 1 ∷ 2 ∷ []) (tag_of the_type x) → card_behind x old new ≡ new
+pub card_on : (x : Stop) (old new : List ℕ) → ((r : Refusal) → x ≡ Refused' r → ⊥) → card_behind x old new ≡ new
 card_on (Wait n) old new o = refl
 card_on Pause old new o = refl
 card_on Complete old new o = refl
-card_on (Refused' r) old new o = absurd (⊎_elim (λ e. omega arith) (⊎_elim (λ e. omega arith) (λ e. omega arith)) o)
+card_on (Refused' r) old new o = absurd (o r refl)
 
 module _ (bs ls out : List ℕ) (v w : Walked) (one : v ≡ closed image bs) where
   image_is : (x : Stop) → v.stop ≡ x → (closed image bs).stop ≡ x
@@ -93,7 +90,7 @@ module _ (bs ls out : List ℕ) (v w : Walked) (one : v ≡ closed image bs) whe
       sym (ap (λ (x : Stop). card_behind x out (card_behind (closed leader ls).stop out (fitted_card (image_plan bs) (leader_plan ls) bs out))) (image_is
       (Refused' r) e))
 
-  module _ (o : OneOf (0 ∷ 1 ∷ 2 ∷ []) (tag_of the_type v.stop)) (two : w ≡ closed leader ls) where
+  module _ (o : (r : Refusal) → v.stop ≡ Refused' r → ⊥) (two : w ≡ closed leader ls) where
     behind_answer : built_of bs ls (length out) ≡ built_behind w.stop (fitted_of v.state.plan w.state.plan (length out))
     unfolding built_of
     behind_answer =
@@ -118,7 +115,7 @@ module _ (bs ls out : List ℕ) (v w : Walked) (one : v ≡ closed image bs) whe
     both_planned = subst (λ (x : Walked). Planned x.state.plan w.state.plan) (sym one)
         (subst (λ (y : Walked). Planned (image_plan bs) y.state.plan) (sym two) (planned bs ls))
 
-    module _ (o' : OneOf (0 ∷ 1 ∷ 2 ∷ []) (tag_of the_type w.stop)) where
+    module _ (o' : (r : Refusal) → w.stop ≡ Refused' r → ⊥) where
       pub fitted_answer : fitted_of v.state.plan w.state.plan (length out) ≡ built_of bs ls (length out)
       fitted_answer = sym (behind_answer ∙ built_on w.stop _ o')
 

@@ -8,15 +8,12 @@ use lib.Dec.{eqb}
 use lib.IntN.{ℤ}
 use lib.ListN.{get_or}
 use lib.Seq.{slice}
-use types.Run.{OneOf}
-use denote.Enum.Declared.{tag_of}
 use borrow.Author.Tests.{eq-eqb, ne_eqb, le-leb, lt-leb}
 use mathlib.Core.Bool.{Bool, true, false}
 use Rattle.words.specs.Tests.{both_of, pick}
 use Rattle.words.specs.Words.{place_of, four_at}
 use Rattle.plan.specs.Tables.{sort_of, last_sort}
 use Rattle.decimal.specs.declared.Form.TheVariants.{I4, I6, I8}
-use Rattle.fields.specs.contracts.Field.{the_type}
 use Rattle.fields.specs.declared.Field.{Field}
 use Rattle.fields.specs.declared.Field.TheVariants.{Value}
 use Rattle.verdicts.specs.Tests.{first_fault, all_hold, text_at}
@@ -31,7 +28,7 @@ use Rattle.image.specs.declared.Described.{Described}
 use Rattle.verdicts.specs.declared.Verdict.TheVariants.{Fine, Fault}
 use Rattle.verdicts.proofs.Holding.{Holds, fine_holds, all_three, row_holds}
 use Rattle.verdicts.proofs.TestLaws.{found, passed, row_found, row_passed}
-use Rattle.verdicts.proofs.FieldLaws.{needed_fault, needed_none, needed_number}
+use Rattle.verdicts.proofs.FieldLaws.{NoValue, needed_fault, needed_none, needed_number}
 
 -- the text names one of the two sorts
 pub sort_in_lem : (r : List ℕ) → sort_in r ≤ last_sort
@@ -88,12 +85,12 @@ module _ (sort : ℕ) (r : List ℕ) (i : ℕ) {f : Field} (e : f ≡ number_fie
       (at r (image_row sort i).byte (image_row sort i).form)
 
   -- a field that is no value has the first fault of what is left
-  pub row_none : i < 8 → OneOf (1 ∷ 2 ∷ []) (tag_of the_type f) → (n : ℕ) × ((p : ℕ) × (fault_of f ≡ Fault n p)) × (fault_of f ≡ first_fault (left sort r i))
+  pub row_none : i < 8 → NoValue f → (n : ℕ) × ((p : ℕ) × (fault_of f ≡ Fault n p)) × (fault_of f ≡ first_fault (left sort r i))
   unfolding image_row
   row_none h k =
       let x = image_row sort i in
       let q = needed_none (place_of x.byte) (last_of x.byte x.form) x.least x.most (at r x.byte x.form)
-      (subst (λ (y : Field). OneOf (1 ∷ 2 ∷ []) (tag_of the_type y)) e k) in
+      (subst NoValue e k) in
       let s : fault_of f ≡ Fault q.0 q.1.0 = ap fault_of e ∙ q.1.1 in
       (q.0, (q.1.0, s), row_found (row_tests r) (image_numbers sort) (number 0 I4 0 0) i 8 h (omega arith) row_verdict s)
 

@@ -5,13 +5,10 @@ use mathlib.Core.List.{List, [], ◌∷◌}
 use mathlib.Core.Bool.{Bool}
 use lib.Dec.{eqb}
 use lib.IntN.{ℤ}
-use types.Run.{OneOf}
-use denote.Enum.Declared.{tag_of}
 use borrow.Author.Tests.{eq-eqb, ne_eqb}
 use Rattle.words.specs.Tests.{pick}
 use Rattle.words.specs.Words.{place_of}
 use Rattle.decimal.specs.declared.Form.TheVariants.{I6}
-use Rattle.fields.specs.contracts.Field.{the_type}
 use Rattle.fields.specs.declared.Field.{Field}
 use Rattle.fields.specs.declared.Field.TheVariants.{Value}
 use Rattle.plan.specs.Tables.{slot_of}
@@ -23,7 +20,7 @@ use Rattle.leader.specs.declared.Pair.{Pair}
 use Rattle.verdicts.specs.declared.Verdict.{Verdict}
 use Rattle.verdicts.specs.declared.Verdict.TheVariants.{Fine, Fault}
 use Rattle.verdicts.proofs.TestLaws.{found, passed, not_fine}
-use Rattle.verdicts.proofs.FieldLaws.{counted_fault, counted_none, counted_number, needed_fault, needed_none, needed_number}
+use Rattle.verdicts.proofs.FieldLaws.{NoValue, counted_fault, counted_none, counted_number, needed_fault, needed_none, needed_number}
 use Rattle.verdicts.proofs.Holding.{Holds, holds_split, number_holds, count_holds}
 
 module _ (r : List ℕ) (x : Pair) where
@@ -84,10 +81,10 @@ module _ (r : List ℕ) (x : Pair) (f : Field) (e : f ≡ counted_of (at r x.byt
   of_count : fault_of f ≡ first_fault (counting r x)
   of_count = ap fault_of e ∙ counted_fault (place_of x.byte) (slot_of x.row).least (slot_of x.row).most (at r x.byte I6)
 
-  pub bad_count : OneOf (1 ∷ 2 ∷ []) (tag_of the_type f) → (y : Held) → y ≡ record { verdict = fault_of f; count = 0; length = 0 } → PairRead r x y
+  pub bad_count : NoValue f → (y : Held) → y ≡ record { verdict = fault_of f; count = 0; length = 0 } → PairRead r x y
   bad_count k y h =
       let q = counted_none (place_of x.byte) (slot_of x.row).least (slot_of x.row).most (at r x.byte I6)
-      (subst (λ (z : Field). OneOf (1 ∷ 2 ∷ []) (tag_of the_type z)) e k) in
+      (subst NoValue e k) in
       let s : fault_of f ≡ Fault q.0 q.1.0 = ap fault_of e ∙ q.1.1 in
       let v = ap (λ (z : Held). z.verdict) h in
       record {
@@ -124,11 +121,11 @@ module _ (r : List ℕ) (x : Pair) (f : Field) (e : f ≡ counted_of (at r x.byt
             (at r (x.byte + 6) x.form)
             ∙ pair_some r x of_count of_fine (λ z. n (count_is ∙ z))
 
-        pub bad_length : OneOf (1 ∷ 2 ∷ []) (tag_of the_type g) → (y : Held) → y ≡ record { verdict = fault_of g; count = 0; length = 0 } → PairRead r x y
+        pub bad_length : NoValue g → (y : Held) → y ≡ record { verdict = fault_of g; count = 0; length = 0 } → PairRead r x y
         bad_length o y h =
             let q = needed_none (place_of (x.byte + 6)) (last_of (x.byte + 6) x.form) (slot_of x.row).shortest (slot_of x.row).longest
             (at r (x.byte + 6) x.form)
-            (subst (λ (z : Field). OneOf (1 ∷ 2 ∷ []) (tag_of the_type z)) k o) in
+            (subst NoValue k o) in
             let s : fault_of g ≡ Fault q.0 q.1.0 = ap fault_of k ∙ q.1.1 in
             let v = ap (λ (z : Held). z.verdict) h in
             record { verdict = v ∙ of_length; count = λ z. absurd (not_fine (v ∙ s) z); length = λ z. absurd (not_fine (v ∙ s) z) }

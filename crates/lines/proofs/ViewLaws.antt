@@ -7,8 +7,6 @@ use mathlib.Core.Bool.{Bool, true, false}
 use native.Mathlib.Omega.{arith}
 use lib.Dec.{ltb}
 use lib.ListN.{length, take, drop}
-use types.Run.{OneOf}
-use denote.Enum.Declared.{tag_of}
 use borrow.Author.Tests.{lt-ltb, le-ltb, ltb-false}
 use Rattle.words.specs.Tests.{pick, within_of}
 use Rattle.words.specs.Answer.{bare_refusal}
@@ -28,7 +26,6 @@ use Rattle.turns.specs.declared.Stop.TheVariants.{Wait as Wait', Pause, Complete
 use Rattle.turns.proofs.FaultLaws.{header_near, body_near}
 use Rattle.lines.specs.View.{left_of, data_of, pixels_from, shown_of, on_verdict, found_in, record_at, line_at, line_of, behind_first, first_of, view_of}
 use Rattle.lines.specs.View.{sort_seen, shown_bytes, pixels_of}
-use Rattle.lines.specs.contracts.View.{the_type as view-type}
 use Rattle.lines.specs.declared.View.{View}
 use Rattle.lines.specs.declared.View.TheVariants.{Shown, Wait, Refused}
 
@@ -153,11 +150,11 @@ module _ (bs : List ℕ) (k : ℕ) (v : View) (sees : v ≡ view_of bs k) where
   unfolding pixels_of
   pixels_are = ap (λ (x : View). shown_bytes (sort_of (sort_seen bs)).group x bs) (sym sees)
 
-  pub pixels_none : OneOf (1 ∷ 2 ∷ []) (tag_of view-type v) → ◌≡◌ {A = List ℕ} [] (pixels_of bs k)
+  pub pixels_none : ((a b c : ℕ) → v ≡ Shown a b c → ⊥) → ◌≡◌ {A = List ℕ} [] (pixels_of bs k)
   pixels_none o = sym (pixels_are ∙ none v o)
     where
-      none : (x : View) → OneOf (1 ∷ 2 ∷ []) (tag_of view-type x) → shown_bytes (sort_of (sort_seen bs)).group x bs ≡ []
-      none (Shown a b c) o = absurd (⊎_elim (λ e. omega arith) (λ e. omega arith) o)
+      none : (x : View) → ((a b c : ℕ) → x ≡ Shown a b c → ⊥) → shown_bytes (sort_of (sort_seen bs)).group x bs ≡ []
+      none (Shown a b c) o = absurd (o a b c refl)
       none (Wait n) o = refl
       none (Refused r) o = refl
 

@@ -9,8 +9,6 @@ use native.Mathlib.Omega.{arith}
 use lib.Dec.{eqb}
 use lib.ListN.{length, get_or, drop, drop_of_length-le}
 use lib.Seq.{drop-cons}
-use types.Run.{OneOf}
-use denote.Enum.Declared.{tag_of}
 use borrow.Author.Tests.{eq-eqb, ne_eqb, eqb-true, eqb-false}
 use Rattle.words.specs.Tests.{pick, within_of}
 use Rattle.words.specs.Words.{place_of}
@@ -25,7 +23,6 @@ use Rattle.walk.specs.declared.State.{State}
 use Rattle.turns.specs.declared.Stop.{Stop}
 use Rattle.turns.specs.declared.Stop.TheVariants.{Wait, Pause, Complete, Refused as Refused'}
 use Rattle.walk.specs.declared.Walked.{Walked}
-use Rattle.turns.specs.contracts.Stop.{the_type}
 use Rattle.walk.proofs.BegunLaws.{begun_walks}
 use Rattle.walk.proofs.GoodLaws.{good_zero, good_later, fresh_good}
 use Rattle.walk.proofs.KeptLaws.{good_kept, kind_kept}
@@ -72,11 +69,11 @@ pub few_pointers : (bs : List ℕ) → (directory bs).state.plan.pointers ≤ 6
 few_pointers bs =
     few_good (directory bs).state (good_kept 9 (fresh volume) bs true (fresh_good volume (omega arith) (omega arith))) (kind_kept 9 (fresh volume) bs true)
 
-not_refused : (x : Stop) (a : Agreement) → OneOf (0 ∷ 1 ∷ 2 ∷ []) (tag_of the_type x) → behind_walk x a ≡ a
+not_refused : (x : Stop) (a : Agreement) → ((r : Refusal) → x ≡ Refused' r → ⊥) → behind_walk x a ≡ a
 not_refused (Wait n) a o = refl
 not_refused Pause a o = refl
 not_refused Complete a o = refl
-not_refused (Refused' r) a o = absurd (⊎_elim (λ e. omega arith) (⊎_elim (λ e. omega arith) (λ e. omega arith)) o)
+not_refused (Refused' r) a o = absurd (o r refl)
 
 -- the walk as the code has it, and the answer by its stop
 module _ (bs cs : List ℕ) (b : Begun) (w : Walked) (begins : b ≡ begin_of volume) (walks : w ≡ walk_of 9 b.state bs true) where
@@ -90,7 +87,7 @@ module _ (bs cs : List ℕ) (b : Begun) (w : Walked) (begins : b ≡ begin_of vo
   pub set_refused : (r : Refusal) → w.stop ≡ Refused' r → Refused r ≡ set_of bs cs
   set_refused r e = sym (set_is ∙ ap (λ (x : Stop). behind_walk x (compare_of w.state.plan.pointers bs cs)) e)
 
-  module _ (o : OneOf (0 ∷ 1 ∷ 2 ∷ []) (tag_of the_type w.stop)) where
+  module _ (o : (r : Refusal) → w.stop ≡ Refused' r → ⊥) where
     pub set_length : (length cs ≡ w.state.plan.pointers → ⊥) → differs (place_of 161) ≡ set_of bs cs
     unfolding compare_of
     set_length n = sym (set_is ∙ not_refused w.stop _ o ∙ simp (ne_eqb _ _ n))

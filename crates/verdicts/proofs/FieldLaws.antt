@@ -9,15 +9,12 @@ use native.Mathlib.Omega.{arith}
 use lib.IntN.{ℤ, pos, negsuc, nat_abs}
 use lib.Signed.{lt_z}
 use borrow.Author.Tests.{ltb-true}
-use types.Run.{OneOf}
-use denote.Enum.Declared.{tag_of}
 use Rattle.words.specs.Tests.{pick, within_of}
 use Rattle.words.specs.declared.Refusal.{Refusal}
 use Rattle.decimal.specs.Forms.{width_of}
 use Rattle.decimal.specs.declared.Form.{Form}
 use Rattle.decimal.specs.declared.Form.TheVariants.{I4, I6, I8, I16, F8d3, F16d7, E20d13}
 use Rattle.fields.specs.Field.{refuse}
-use Rattle.fields.specs.contracts.Field.{the_type}
 use Rattle.fields.specs.declared.Field.{Field}
 use Rattle.fields.specs.declared.Field.TheVariants.{Value, Blank, Refused}
 use Rattle.verdicts.specs.Tests.{test, first_fault, whole_in, whole_of, number_of, number_tests, count_tests, readable_test, fault_of, in_range, needed_of}
@@ -60,8 +57,12 @@ module _ (z v : ℤ) (e : z ≡ v) where
 
 -- ---- a field that is no value says no number
 
-pub no_number : (f : Field) → OneOf (1 ∷ 2 ∷ []) (tag_of the_type f) → 0 ≡ number_of f
-no_number (Value v e) k = absurd (⊎_elim (λ e. omega arith) (λ e. omega arith) k)
+-- a field is no value
+abbrev pub NoValue : Field → Type 0
+NoValue f = (v e : ℤ) → f ≡ Value v e → ⊥
+
+pub no_number : (f : Field) → NoValue f → 0 ≡ number_of f
+no_number (Value v e) k = absurd (k v e refl)
 no_number Blank k = refl
 no_number (Refused x) k = refl
 
@@ -70,10 +71,10 @@ no_number (Refused x) k = refl
 pub refused_fault : (f : Field) (x : Refusal) → f ≡ Refused x → Fault x.number x.place ≡ fault_of f
 refused_fault f x q = rw q
 
-pub other_fault : (f : Field) → OneOf (0 ∷ 1 ∷ []) (tag_of the_type f) → Fine ≡ fault_of f
+pub other_fault : (f : Field) → ((x : Refusal) → f ≡ Refused x → ⊥) → Fine ≡ fault_of f
 other_fault (Value v e) k = refl
 other_fault Blank k = refl
-other_fault (Refused x) k = absurd (⊎_elim (λ e. omega arith) (λ e. omega arith) k)
+other_fault (Refused x) k = absurd (k x refl)
 
 -- ---- a field handed on has the first fault of its tests, and where it is a value, its number
 
@@ -88,9 +89,9 @@ range_value true v e w x at q = cc
 range_value false v e w x at q = absurd (let z : ◌≡◌ {A = ℕ} 0 1 = cc in omega arith)
 
 -- a field that is no value and no blank has a fault
-range_none : (b : Bool) (v e : ℤ) (at : ℕ) → OneOf (1 ∷ 2 ∷ []) (tag_of the_type (pick b (Value v e) (refuse 7 at))) → fault_of
+range_none : (b : Bool) (v e : ℤ) (at : ℕ) → NoValue (pick b (Value v e) (refuse 7 at)) → fault_of
     (pick b (Value v e) (refuse 7 at)) ≡ Fault 7 at
-range_none true v e at k = absurd (⊎_elim (λ e. omega arith) (λ e. omega arith) k)
+range_none true v e at k = absurd (k v e refl)
 range_none false v e at k = refl
 
 -- a field that must be a number
@@ -107,7 +108,7 @@ module _ (at last lo hi : ℕ) where
   needed_number (Refused y) w x q = absurd (let z : ◌≡◌ {A = ℕ} 0 1 = cc in omega arith)
 
   -- a field that is handed on and is no value has a fault
-  pub needed_none : (f : Field) → OneOf (1 ∷ 2 ∷ []) (tag_of the_type (needed_of f at last lo hi)) → (n : ℕ) ×
+  pub needed_none : (f : Field) → NoValue (needed_of f at last lo hi) → (n : ℕ) ×
       ((p : ℕ) × (fault_of (needed_of f at last lo hi) ≡ Fault n p))
   needed_none (Value v e) k = (7, (at, range_none (whole_in lo v hi) v e at k))
   needed_none Blank k = (6, (last, refl))
@@ -126,7 +127,7 @@ module _ (at lo hi : ℕ) where
   counted_number Blank w x q = ap whole_of (sym (range_value (within_of lo 0 hi) (pos 0) (pos 0) w x at q))
   counted_number (Refused y) w x q = absurd (let z : ◌≡◌ {A = ℕ} 0 1 = cc in omega arith)
 
-  pub counted_none : (f : Field) → OneOf (1 ∷ 2 ∷ []) (tag_of the_type (counted_of f at lo hi)) → (n : ℕ) ×
+  pub counted_none : (f : Field) → NoValue (counted_of f at lo hi) → (n : ℕ) ×
       ((p : ℕ) × (fault_of (counted_of f at lo hi) ≡ Fault n p))
   counted_none (Value v e) k = (7, (at, range_none (whole_in lo v hi) v e at k))
   counted_none Blank k = (7, (at, range_none (within_of lo 0 hi) (pos 0) (pos 0) at k))

@@ -2,18 +2,15 @@
 use Prim.Native.Nat.{ℕ}
 use mathlib.Core.Path.{◌≡◌, refl, sym, ap, ◌∙◌, subst}
 use mathlib.Core.List.{List, [], ◌∷◌}
-use types.Run.{OneOf}
-use denote.Enum.Declared.{tag_of}
 use lib.IntN.{ℤ}
 use Rattle.words.specs.Words.{place_of}
-use Rattle.fields.specs.contracts.Field.{the_type}
 use Rattle.fields.specs.declared.Field.{Field}
 use Rattle.fields.specs.declared.Field.TheVariants.{Value}
 use Rattle.verdicts.specs.Tests.{first_fault, each, fault_of, needed_of, whole_of}
 use Rattle.verdicts.specs.Numbers.{Number, at, last_of, number_at, row_tests, numbers_tests}
 use Rattle.verdicts.specs.declared.Verdict.TheVariants.{Fine, Fault}
 use Rattle.verdicts.proofs.TestLaws.{found, passed}
-use Rattle.verdicts.proofs.FieldLaws.{needed_fault, needed_none, needed_number}
+use Rattle.verdicts.proofs.FieldLaws.{NoValue, needed_fault, needed_none, needed_number}
 
 -- f is the field of row x, as the code reads it
 module _ (r : List ℕ) (x : Number) (xs : List Number) {f : Field}
@@ -32,10 +29,10 @@ module _ (r : List ℕ) (x : Number) (xs : List Number) {f : Field}
   numbers_passed q = passed (row_tests r x) (each (row_tests r) xs) row_fault q
 
   -- a field that is no value has a fault
-  pub no_value : OneOf (1 ∷ 2 ∷ []) (tag_of the_type f) → (n : ℕ) × ((p : ℕ) × (fault_of f ≡ Fault n p))
+  pub no_value : NoValue f → (n : ℕ) × ((p : ℕ) × (fault_of f ≡ Fault n p))
   no_value k =
       let q = needed_none (place_of x.byte) (last_of x.byte x.form) x.least x.most (at r x.byte x.form)
-      (subst (λ (y : Field). OneOf (1 ∷ 2 ∷ []) (tag_of the_type y)) e k) in
+      (subst NoValue e k) in
       (q.0, (q.1.0, ap fault_of e ∙ q.1.1))
 
   -- a value says the row's number

@@ -11,4 +11,4 @@ returns-in-Value c = two_set _ _ _ _ c.args.value.now (search rules) (search rul
     ∙ ap (λ (y : Field). value_by y c.args.value.now) (sym c.in-Value.is)
 
 pub returns-in_default : goal.returns-in_default
-returns-in_default c = value_stays c.args.x c.args.value.now c.in_default.in_default-own.keys2
+returns-in_default c = value_stays c.args.x c.args.value.now c.in_default.not-Value

@@ -15,9 +15,9 @@ returns-in-Refused-second c =
     let closed = c.closed-scene in
     let closed2 = c.closed-notes in
     record {
-      value = answer.leader_answer args.image.now args.leader.now args.card.now _ _ closed.ensures c.in_default.in_default-own.keys2
+      value = answer.leader_answer args.image.now args.leader.now args.card.now _ _ closed.ensures c.in_default.not-Refused
           closed2.ensures _ c.in-Refused-second.is;
-      card_after = answer.leader_card args.image.now args.leader.now args.card.now _ _ closed.ensures c.in_default.in_default-own.keys2
+      card_after = answer.leader_card args.image.now args.leader.now args.card.now _ _ closed.ensures c.in_default.not-Refused
           closed2.ensures _ c.in-Refused-second.is;
     }
 
@@ -27,20 +27,19 @@ fitted-requires c =
     let closed = c.closed-scene in
     let closed2 = c.closed-notes in
     answer.both_planned args.image.now args.leader.now args.card.now _ _ closed.ensures
-    c.in_default.in_default-own.keys2 closed2.ensures
+    c.in_default.not-Refused closed2.ensures
 
 pub returns : goal.returns
 returns c =
     let args = c.args in
     let closed = c.closed-scene in
     let closed2 = c.closed-notes in
-    let match2 = c.in_default-second-own in
     let fitted = c.fitted in
     record {
       value = fitted.ensures.value ∙ answer.fitted_answer args.image.now args.leader.now args.card.now _ _ closed.ensures
-          c.in_default.in_default-own.keys2 closed2.ensures
-          match2.keys2;
+          c.in_default.not-Refused closed2.ensures
+          c.in_default-second.not-Refused;
       card_after = fitted.ensures.card_after ∙ answer.fitted_card_lem args.image.now args.leader.now args.card.now _ _ closed.ensures
-          c.in_default.in_default-own.keys2 closed2.ensures
-          match2.keys2;
+          c.in_default.not-Refused closed2.ensures
+          c.in_default-second.not-Refused;
     }

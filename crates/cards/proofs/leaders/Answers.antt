@@ -21,7 +21,7 @@ returns-then-wrong-ne0 c =
     let fault = c.fault-wrong in
     let if1 = c.if-wrong-ne0 in
     let card = args.card.now in
-    let e = fault.ensures ∙ ap (λ (t : Bool). fault_of 3 t (laws.rest card loop.at)) leader-holds.ensures.0 in
+    let e = fault.ensures ∙ ap (λ (t : Bool). fault_of 3 t (laws.rest card loop.at)) leader-holds.ensures.value in
     record {
       value = c.refused.ensures ∙ laws.leaders_wrong args.n loop.k loop.sum loop.at card loop.invariant.3.0 _ loop-test.true loop.invariant.3.1 e
           if1.true
@@ -59,11 +59,11 @@ loop-at-preserved c =
     let if1 = c.if-wrong-ne0 in
     let card = args.card.now in
     let z = sym fault.ensures ∙ if1.false in
-    let e = ap (λ (t : Bool). fault_of 3 t (laws.rest card loop.at)) (sym leader-holds.ensures.0) ∙ z in
+    let e = ap (λ (t : Bool). fault_of 3 t (laws.rest card loop.at)) (sym leader-holds.ensures.value) ∙ z in
     let t = (passes 3 leader-holds.result (laws.rest card loop.at) z).holds' in
     let next = laws.leaders_next args.n loop.k loop.sum loop.at card loop.invariant.3.0 loop-test.true loop.invariant.3.1 e in (
       laws.pass_room 3 loop.at leader-holds.result card loop.invariant.0 z,
-      leader-holds.ensures.1 t,
+      leader-holds.ensures.k_bound t,
       omega (arith, loop.invariant.2, c.four-sum.ensures.upper_bound),
       (
         next.0,

@@ -25,10 +25,9 @@ returns-in_default c =
     let args = c.args in
     let number_at = c.number_at-f in
     let loop-test = c.loop-i-test in
-    let match = c.in_default-own in
     let l = loop in
     let q = laws.row_none args.sort args.r.now l.i number_at.ensures
-    loop-test.true match.keys2 in
+    loop-test.true c.in_default.not-Value in
     record {
       verdict = c.fault.ensures ∙ q.2 ∙ sym l.invariant.2;
       values = λ e. absurd (not_fine (c.fault.ensures ∙ q.1.1) e);

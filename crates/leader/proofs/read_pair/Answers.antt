@@ -18,7 +18,7 @@ returns-in_default c = let r = c.args.r.now in
     let x = c.args.x in
     let e = c.count-f.ensures
     ∙ ap (λ (s : Slot). counted_of (at r x.byte I6) (place_of x.byte) s.least s.most) c.slot_at-slot.ensures in
-    laws.bad_count r x _ e c.in_default.in_default-own.keys2 _ (c.faulty.ensures
+    laws.bad_count r x _ e c.in_default.not-Value _ (c.faulty.ensures
     ∙ ap (λ (v : Verdict). record { verdict = v; count = 0; length = 0 }) c.fault.ensures)
 
 pub returns-then-count-eq0 : goal.returns-then-count-eq0
@@ -48,7 +48,7 @@ returns-in_default-g c =
     c.slot_at-slot.ensures in
     laws.bad_length r x _ e c.in-Value.is
     (λ o. c.if-count-eq0.false (c.whole-count.ensures ∙ ap whole_of z ∙ o)) _ k
-    c.in_default-g.in_default-g-own.keys2 _ (c.faulty-in_default-g.ensures
+    c.in_default-g.not-Value _ (c.faulty-in_default-g.ensures
     ∙ ap (λ (v : Verdict). record { verdict = v; count = 0; length = 0 }) c.fault-in_default-g.ensures)
 
 pub returns : goal.returns

@@ -19,7 +19,7 @@ within bs k g start count left e s =
 
 pub returns-in_default : goal.returns-in_default
 returns-in_default c = views.pixels_none c.args.bytes.now c.args.k _
-    (ap (λ (x : Sorted). x.view) c.sorted_view-x.ensures) c.in_default.in_default-own.keys2
+    (ap (λ (x : Sorted). x.view) c.sorted_view-x.ensures) c.in_default.not-Shown
 
 pub overflow_mul-to : goal.overflow_mul-to
 overflow_mul-to c =

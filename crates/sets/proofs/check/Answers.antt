@@ -19,7 +19,7 @@ returns-then-counts-p c =
     c.differing.ensures ∙ ap differs c.place.ensures
     ∙ laws.set_length args.directory.now args.counts.now _ _
     c.begin-begun.ensures
-    c.walk-walked.ensures c.in_default.in_default-own.keys2
+    c.walk-walked.ensures c.in_default.not-Refused
     c.if-counts-p.true
 
 pub compare-requires : goal.compare-requires
@@ -38,4 +38,4 @@ returns c =
     let args = c.args in
     c.compare.ensures ∙ laws.set_compare args.directory.now args.counts.now _ _
     c.begin-begun.ensures
-    c.walk-walked.ensures c.in_default.in_default-own.keys2 c.if-counts-p.false
+    c.walk-walked.ensures c.in_default.not-Refused c.if-counts-p.false

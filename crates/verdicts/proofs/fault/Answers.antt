@@ -6,4 +6,4 @@ pub returns-in-Refused : goal.returns-in-Refused
 returns-in-Refused c = laws.refused_fault c.args.f _ c.in-Refused.is
 
 pub returns-in_default : goal.returns-in_default
-returns-in_default c = laws.other_fault c.args.f ?
+returns-in_default c = laws.other_fault c.args.f c.in_default.not-Refused

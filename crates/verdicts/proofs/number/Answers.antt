@@ -34,7 +34,7 @@ returns-in-Value c =
     let field = c.field in
     let z : to_z w64 (of_z w64 c.in-Value.v) ≡ c.in-Value.v = search rules in
     let y : to_z w64 (of_z w64 c.in-Value.e) ≡ c.in-Value.e = search rules in
-    in_range_lem.ensures ∙ ap₂ (λ (c.v-1 e : ℤ). in_range c.v-1 e place.result a.least a.most) z y
+    in_range_lem.ensures ∙ ap₂ (λ (v e : ℤ). in_range v e place.result a.least a.most) z y
     ∙ ap (λ p. in_range c.in-Value.v c.in-Value.e p a.least a.most) place.ensures
     ∙ laws.needed_value (place_of a.byte) (last_of a.byte a.form) a.least a.most (at a.r.now a.byte a.form) _ _
     (sym field.ensures ∙ c.in-Value.is)

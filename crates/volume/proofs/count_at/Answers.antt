@@ -8,7 +8,7 @@ use borrow.Author.Rules.{rules}
 use Rattle.volume.proofs.count_at.Goals as goal
 
 pub returns-in_default : goal.returns-in_default
-returns-in_default c = laws.no_number c.field-f.result c.in_default.in_default-own.keys2 ∙ ap number_of c.field-f.ensures
+returns-in_default c = laws.no_number c.field-f.result c.in_default.not-Value ∙ ap number_of c.field-f.ensures
 
 pub returns : goal.returns
 returns c = let z : to_z w64 (of_z w64 c.in-Value.v) ≡ c.in-Value.v = search rules in

@@ -27,7 +27,7 @@ unfolding described_of volume_tests
 returns-in_default-f c =
     let args = c.args in
     let r = args.r.now in
-    let n = laws.no_value r (number 161 I4 3 6) [] c.number-f.ensures c.in_default-f.in_default-f-own.keys2 in
+    let n = laws.no_value r (number 161 I4 3 6) [] c.number-f.ensures c.in_default-f.not-Value in
     let q = c.fault.ensures ∙ n.1.1 in
     let e = c.fault.ensures ∙ laws.numbers_found r (number 161 I4 3 6) [] c.number-f.ensures n.1.1
     ∙ sym (passed (first_text r ∷ []) (numbers_tests r volume_numbers) c.first_text-v.ensures
