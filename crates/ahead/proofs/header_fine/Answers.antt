@@ -13,7 +13,6 @@ pub returns : goal.returns
 unfolding header_tests
 returns c =
     let args = c.args in
-    let shared-slice-known = c.type_inv.b in
     let is = c.is-number in
     let four_there_lem = c.four_there in
     let both = c.both in
@@ -23,7 +22,7 @@ returns c =
     let is3 = c.is-length in
     let four-there3 = c.four_there-3 in
     let b = args.b.now in
-    let byte = shared-slice-known.given in
+    let byte = c.type_inv.b in
     c.both-2.ensures
     ∙ ap₂ both_of (is.ensures ∙ ap (λ (n : ℕ). eqb n (args.k + 1)) four_there_lem.ensures.value)
     (both.ensures
