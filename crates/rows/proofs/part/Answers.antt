@@ -6,12 +6,11 @@ use Rattle.rows.proofs.part.Goals as goal
 
 pub numeral-requires : goal.numeral-requires
 numeral-requires c =
-    let entry = c.before.before.before.before.before.before.before in omega
-    (arith, numeral_length 20 entry.args.n, c.text-from.ensures.value, entry.requires)
+    omega (arith, numeral_length 20 c.args.n, c.text-from.ensures.value, c.requires)
 
 pub returns : goal.returns
 returns c =
     let args = c.args in
     let text = c.text-from in
-    let w = laws.part_is args.line.now text.new.0 _ args.at text.result _ _ args.word.now
-    c.requires text.ensures c.numeral.ensures in record { line_after = w.0; upper_bound = w.1.0; lower_bound = w.1.1.0; line_unchanged = w.1.1.1 }
+    let w = laws.part_is args.line.now text.new.out _ args.at text.result _ _ args.word.now
+    c.requires (text.ensures.out_after, text.ensures.value) (c.numeral.ensures.out_after, c.numeral.ensures.value) in record { line_after = w.0; upper_bound = w.1.0; lower_bound = w.1.1.0; line_unchanged = w.1.1.1 }
