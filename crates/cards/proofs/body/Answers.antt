@@ -2,7 +2,6 @@
 use native.Mathlib.Omega.{arith}
 use mathlib.Core.Path.{sym, ap}
 use borrow.Author.Tests.{ne_eqb}
-use borrow.Author.Tests.{ne_eqb}
 use Rattle.cards.specs.Check.{body_of}
 use Rattle.cards.proofs.body.Goals as goal
 
@@ -22,5 +21,4 @@ pub returns-in_default : goal.returns-in_default
 unfolding body_of
 returns-in_default c =
     let args = c.args in
-    let m = c.in_default.in_default-own.rest in
-    sym (rw (ne_eqb args.kind 1 (λ e. omega (arith, m)), ne_eqb args.kind 2 (λ e. omega (arith, m)), ne_eqb args.kind 3 (λ e. omega (arith, m))))
+    sym (rw (ne_eqb args.kind 1 (omega arith), ne_eqb args.kind 2 (omega arith), ne_eqb args.kind 3 (omega arith)))

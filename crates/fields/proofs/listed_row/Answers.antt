@@ -5,12 +5,6 @@ use native.Mathlib.Omega.{arith}
 use Rattle.fields.specs.Listed.{listed}
 use Rattle.fields.proofs.listed_row.Goals as goal
 
-past : (k i : ℕ) → k ≤ i → (i ≡ k → ⊥) → suc k ≤ i
-past k i h n = omega arith
-
-last : (i : ℕ) → 12 ≤ i → i < 13 → i ≡ 12
-last i a b = omega arith
-
 pub returns-in-0 : goal.returns-in-0
 unfolding listed
 returns-in-0 c = c.row.ensures ∙ sym (ap listed c.in-0.is)
@@ -61,13 +55,4 @@ returns-in-11 c = c.row-in-11.ensures ∙ sym (ap listed c.in-11.is)
 
 pub returns-in_default : goal.returns-in_default
 unfolding listed
-returns-in_default c = c.row-in_default.ensures
-    ∙ sym (ap listed (last _
-    (past 11 _ (past 10 _
-    (past 9 _ (past 8 _ (past 7 _
-    (past 6 _ (past 5 _ (past 4 _
-    (past 3 _ (past 2 _ (past 1 _ (past 0 _ zero-le c.in_default.in_default-own.rest.0.0.0.0.0.0.0.0.0.0.0.1)
-    c.in_default.in_default-own.rest.0.0.0.0.0.0.0.0.0.0.1) c.in_default.in_default-own.rest.0.0.0.0.0.0.0.0.0.1)
-    c.in_default.in_default-own.rest.0.0.0.0.0.0.0.0.1) c.in_default.in_default-own.rest.0.0.0.0.0.0.0.1) c.in_default.in_default-own.rest.0.0.0.0.0.0.1)
-    c.in_default.in_default-own.rest.0.0.0.0.0.1) c.in_default.in_default-own.rest.0.0.0.0.1) c.in_default.in_default-own.rest.0.0.0.1)
-    c.in_default.in_default-own.rest.0.0.1) c.in_default.in_default-own.rest.0.1) c.in_default.in_default-own.rest.1) c.requires))
+returns-in_default c = let last : c.args.i ≡ 12 = omega (arith, c.requires) in c.row-in_default.ensures ∙ sym (ap listed last)

@@ -10,12 +10,6 @@ use Rattle.words.specs.Words.{place_of}
 use Rattle.image.specs.Image.{image_row, number_field}
 use Rattle.image.proofs.number_at.Goals as goal
 
-past : (k i : ℕ) → k ≤ i → (i ≡ k → ⊥) → suc k ≤ i
-past k i h n = omega arith
-
-last : (i : ℕ) → 7 ≤ i → i < 8 → i ≡ 7
-last i a b = omega arith
-
 pub returns-in-0 : goal.returns-in-0
 unfolding image_row
 returns-in-0 c =
@@ -71,9 +65,6 @@ returns-in-6 c =
 
 pub returns-in_default : goal.returns-in_default
 unfolding image_row
-returns-in_default c = c.number-in_default.ensures
-    ∙ sym (ap (λ (k : ℕ). number_field c.args.r.now (image_row c.args.sort k))
-    (last _ (past 6 _ (past 5 _
-    (past 4 _ (past 3 _ (past 2 _ (past 1 _ (past 0 _ zero-le c.in_default.in_default-own.rest.0.0.0.0.0.0.1) c.in_default.in_default-own.rest.0.0.0.0.0.1)
-    c.in_default.in_default-own.rest.0.0.0.0.1) c.in_default.in_default-own.rest.0.0.0.1) c.in_default.in_default-own.rest.0.0.1) c.in_default.in_default-own.rest.0.1)
-    c.in_default.in_default-own.rest.1) c.requires))
+returns-in_default c =
+    let last : c.args.i ≡ 7 = omega (arith, c.requires) in
+    c.number-in_default.ensures ∙ sym (ap (λ (k : ℕ). number_field c.args.r.now (image_row c.args.sort k)) last)
