@@ -2,8 +2,6 @@
 // what the file is. The work is in the crates `listing` and `streams`.
 #![tactic(auto)]
 
-use libc::{STDERR_FILENO, STDIN_FILENO, STDOUT_FILENO};
-
-fn main() {
-    streams::list(STDIN_FILENO, STDOUT_FILENO, STDERR_FILENO);
+fn main(rt: HostRuntime) {
+    streams::list(&mut rt.stdin(), &mut rt.stdout(), &mut rt.stderr());
 }

@@ -5,8 +5,10 @@
 
 ghost use Rattle.std.specs.Prelude.{◌≤◌, length};
 
-use libc::STDOUT_FILENO;
 use words::Refusal;
+
+// Standard output, as the kit's crate io names it.
+const STDOUT: i32 = 1;
 
 // A number that was read, and the place behind it.
 #[derive(Clone, Copy)]
@@ -158,12 +160,12 @@ pub fn part(held: &[u8], from: u64, long: u64) -> &[u8] {
 
 // Words, and a blank and a number, on standard output.
 pub fn say(words: &[u8]) {
-    io::write_all(STDOUT_FILENO, words);
+    io::write_all(STDOUT, words);
 }
 
 pub fn say_number(n: u64) {
     say(b" ");
-    io::print_decimal(STDOUT_FILENO, n);
+    io::print_decimal(STDOUT, n);
 }
 
 // How far a number lies from 0; 0 where that passes eighteen digits, which no field of the reader does.
@@ -181,7 +183,7 @@ fn magnitude(v: i64) -> u64 {
 pub fn say_signed(v: i64) {
     if v < 0 {
         say(b" -");
-        io::print_decimal(STDOUT_FILENO, magnitude(v));
+        io::print_decimal(STDOUT, magnitude(v));
     } else {
         say_number(magnitude(v));
     }
