@@ -1,15 +1,14 @@
 -- The fault of an entry by the tests that the code makes, and what an entry without one has: its kind, all its bytes, and a body that passes its test.
-use Prim.Native.Nat.{ℕ, ◌+◌, ◌≤◌, ◌<◌}
+use Prim.Native.Nat.{ℕ, ◌+◌, ◌≤◌}
 use mathlib.Core.Path.{◌≡◌, refl, sym, ap, ◌∙◌, subst}
 use mathlib.Core.List.{List}
-use mathlib.Core.Bool.{Bool, true, false, false≢true}
-use mathlib.Core.Logic.{⊎_elim}
+use mathlib.Core.Bool.{Bool, true, false}
 use native.Mathlib.Omega.{arith}
 use lib.Dec.{eqb}
 use lib.ListN.{length}
 use borrow.Author.Tests.{eq-eqb, ne_eqb, eqb-true, ltb-true}
 use Rattle.words.specs.Tests.{pick, both_of}
-use Rattle.words.proofs.Laws.{both_l, both_r, cases}
+use Rattle.words.proofs.Laws.{both_l, both_r}
 use Rattle.entry.specs.Entry.{kind_of, whole_of}
 use Rattle.cards.specs.Check.{body_of, fault_of}
 

@@ -1,6 +1,6 @@
 -- What a field says as a function of its bytes: the parts that its form has (`Segments` of `digits`), put together as the functions of
 -- `src/` do. Nobody need believe this file: `proofs/Sound` and `proofs/Complete` show that it says what `Grammar` says. Assumes nothing.
-use Rattle.std.specs.Prelude.{ℕ, ◌+◌, ◌-◌, ◌≤◌, List, [], ◌∷◌, Bool, true, false, eqb, length, take, drop, pos}
+use Rattle.std.specs.Prelude.{ℕ, ◌+◌, ◌-◌, ◌≤◌, List, [], ◌∷◌, true, false, eqb, length, take, drop, pos}
 use Rattle.words.specs.Tests.{pick}
 use Rattle.digits.specs.Segments.{after_blanks, mantissa_of, exponent_of}
 use Rattle.digits.specs.declared.Part.{Part}

@@ -21,7 +21,6 @@ use Rattle.decimal.proofs.Laws.{wide}
 use Rattle.bad_byte.proofs.Named.{at_most}
 use Rattle.fields.specs.Shaped.{shaped_at}
 use Rattle.fields.specs.Field.{refuse, from_written, field_bytes, bad_place, field_at, rough_at, badly?}
-use Rattle.fields.specs.declared.Field.{Field}
 use Rattle.fields.specs.declared.Field.TheVariants.{Blank}
 use Rattle.fields.specs.Listed.{listed, listed_field}
 

@@ -2,7 +2,7 @@
 -- descriptor whose number fields have no fault.
 use Prim.Native.Nat.{ℕ, ◌+◌, ◌*◌, ◌≤◌, ◌<◌}
 use mathlib.Core.Path.{◌≡◌, sym, ap, ◌∙◌, subst}
-use mathlib.Core.List.{List, [], ◌∷◌, ◌++◌}
+use mathlib.Core.List.{List, ◌++◌}
 use native.Mathlib.Omega.{arith}
 use lib.Dec.{eqb}
 use lib.IntN.{ℤ}
@@ -24,7 +24,6 @@ use Rattle.image.specs.Image.{agreements, image_tests, unnamed, named_by}
 use Rattle.image.specs.Image.{described_of, line_tests}
 use Rattle.verdicts.specs.declared.Verdict.{Verdict}
 use Rattle.image.specs.declared.Numbers.{Numbers}
-use Rattle.image.specs.declared.Described.{Described}
 use Rattle.verdicts.specs.declared.Verdict.TheVariants.{Fine, Fault}
 use Rattle.verdicts.proofs.Holding.{Holds, fine_holds, all_three, row_holds}
 use Rattle.verdicts.proofs.TestLaws.{found, passed, row_found, row_passed}

@@ -1,6 +1,5 @@
 -- The count in its range, and the length by the count: the definition's two cases.
 use mathlib.Core.Path.{sym, ap, ◌∙◌}
-use lib.ListN.{length}
 use Rattle.words.proofs.Laws.{both≡}
 use Rattle.words.specs.Tests.{within_of}
 use Rattle.plan.specs.declared.Slot.{Slot}

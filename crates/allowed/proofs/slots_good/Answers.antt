@@ -1,5 +1,4 @@
 -- The slots from i on are good exactly if all are, as long as each slot passed was.
-use Prim.Native.Nat.{◌-◌}
 use mathlib.Core.Path.{refl, sym, ◌∙◌}
 use native.Mathlib.Omega.{arith}
 use borrow.Author.Rules.{rules}

@@ -1,5 +1,4 @@
 -- What is left from i on is all 0 exactly if the whole is, as long as each number passed was 0.
-use Prim.Native.Nat.{◌-◌}
 use mathlib.Core.Path.{refl, sym, ◌∙◌}
 use native.Mathlib.Omega.{arith}
 use borrow.Author.Tests.{eq-eqb, ne_eqb}

@@ -1,5 +1,5 @@
 -- What is left to judge behind the leader entries that pass is the whole judging of them; each ordinal is a byte, and the lengths add up.
-use Prim.Native.Nat.{ℕ, ◌+◌, ◌-◌}
+use Prim.Native.Nat.{ℕ, ◌+◌}
 use mathlib.Core.Path.{refl, sym, ap, ◌∙◌}
 use mathlib.Core.Bool.{Bool}
 use native.Mathlib.Omega.{arith}

@@ -1,5 +1,5 @@
 -- What is left to judge behind the lines that pass is the whole judging of the lines.
-use Prim.Native.Nat.{ℕ, ◌-◌}
+use Prim.Native.Nat.{ℕ}
 use mathlib.Core.Path.{sym, ap, ◌∙◌}
 use mathlib.Core.Bool.{Bool}
 use native.Mathlib.Nat.{sub-zero}

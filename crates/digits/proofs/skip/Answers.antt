@@ -1,5 +1,4 @@
 -- The first place that holds no blank: what is left from there is what is left after the blanks.
-use Prim.Native.Nat.{◌-◌}
 use mathlib.Core.Path.{sym, ◌∙◌}
 use native.Mathlib.Omega.{arith}
 use Rattle.digits.proofs.Laws as laws

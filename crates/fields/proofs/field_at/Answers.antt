@@ -1,6 +1,5 @@
 -- A 6 is moved to the first bad byte, which has come; any other answer is handed on.
 use mathlib.Core.Path.{sym, ap, ◌∙◌}
-use mathlib.Core.Bool.{true, false}
 use Rattle.fields.specs.Field.{refuse, badly?}
 use Rattle.fields.proofs.Laws as laws
 use Rattle.fields.proofs.field_at.Goals as goal

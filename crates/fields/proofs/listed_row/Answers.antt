@@ -1,5 +1,4 @@
 -- Each arm has the row of the table of specs/ at its own place, by computing.
-use Prim.Native.Nat.{ℕ, suc, ◌≤◌, ◌<◌, zero-le}
 use mathlib.Core.Path.{◌≡◌, sym, ap, ◌∙◌}
 use native.Mathlib.Omega.{arith}
 use Rattle.fields.specs.Listed.{listed}

@@ -1,5 +1,5 @@
 -- Each arm has the row of the table of specs/ at its own place, by computing.
-use Prim.Native.Nat.{ℕ, suc, ◌≤◌, ◌<◌, zero-le}
+use Prim.Native.Nat.{ℕ}
 use mathlib.Core.Path.{◌≡◌, sym, ap, ◌∙◌}
 use native.Mathlib.Omega.{arith}
 use Rattle.decimal.specs.declared.Form.TheVariants.{I4}

@@ -1,5 +1,4 @@
 -- The fields from i on have the first fault of the fields from the first: each field passed had none.
-use Prim.Native.Nat.{◌-◌}
 use mathlib.Core.Path.{refl, sym, ap, ◌∙◌}
 use native.Mathlib.Omega.{arith}
 use Rattle.words.specs.Words.{place_of}

@@ -1,9 +1,7 @@
 -- The search from run i on for what is left of k is the search from the first run for k; the bounds on each run leave room for every sum.
-use Prim.Native.Nat.{◌-◌}
 use mathlib.Core.Path.{refl, sym, ◌∙◌}
 use native.Mathlib.Omega.{arith}
 use borrow.Author.Rules.{rules}
-use lib.ListN.{length}
 use Rattle.plan.proofs.RunLaws as laws
 use Rattle.plan.proofs.find.Goals as goal
 

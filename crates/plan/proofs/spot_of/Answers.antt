@@ -2,7 +2,6 @@
 use Prim.Native.Nat.{ℕ}
 use mathlib.Core.Path.{sym, ap, ◌∙◌}
 use native.Mathlib.Omega.{arith}
-use lib.ListN.{length}
 use mathlib.Core.Path.{subst₂}
 use Rattle.plan.specs.Plan.{Small}
 use Rattle.plan.proofs.CodeLaws as laws

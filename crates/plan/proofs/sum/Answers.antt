@@ -1,5 +1,4 @@
 -- What is summed so far and what is left make the whole; no count is large enough for the sum to wrap.
-use Prim.Native.Nat.{◌-◌}
 use mathlib.Core.Path.{sym, ◌∙◌}
 use native.Mathlib.Omega.{arith}
 use borrow.Author.Rules.{rules}

@@ -1,5 +1,5 @@
 -- What is left of the text is compared with the record from the place reached; each byte that agrees takes one from both.
-use Prim.Native.Nat.{ℕ, ◌-◌}
+use Prim.Native.Nat.{ℕ}
 use mathlib.Core.Path.{sym, ap, ◌∙◌}
 use native.Mathlib.Omega.{arith}
 use Rattle.words.specs.Words.{place_of}
