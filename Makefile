@@ -5,13 +5,13 @@
 demo:
 	@scripts/demo
 
-# everything: proofs, must-fail edits, programs, formatting, the house's own rules
+# everything: proofs, must-fail edits, programs, formatting, the library for C, the house's own rules
 test:
 	@scripts/test
 
-# the quick look while working: proofs and programs, what has not changed is not proved again
+# the quick look while working: the proofs; what has not changed is not proved again
 check:
-	rt check
+	rt all check
 
 # the library for C, x86-64: target/lib/libseobangyu.a, libseobangyu.so, seobangyu.h
 lib:

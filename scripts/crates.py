@@ -9,11 +9,16 @@ LIST = HOME / 'crates.txt'
 KIT = ('bytes', 'check', 'libc', 'io', 'os')  # the kit's libraries that a crate may need; `std` every crate has
 
 
+def crate_of(said: str) -> str:
+    """The crate's name out of what stands before a line's colon, which may say more, as `staticlib`."""
+    return said.split()[0]
+
+
 def needs() -> dict[str, list[str]]:
     """Each crate, in the order of the list, and what it is said to need."""
     lines = (line.split('#')[0] for line in LIST.read_text().splitlines())
     pairs = (line.split(':') for line in lines if ':' in line)
-    return {name.strip(): said.split() for name, said in pairs}
+    return {crate_of(name): said.split() for name, said in pairs}
 
 
 def floors() -> Iterator[tuple[str, list[str]]]:
@@ -21,7 +26,7 @@ def floors() -> Iterator[tuple[str, list[str]]]:
     name, group = '', []
     for line in [*LIST.read_text().splitlines(), '']:
         if ':' in line.split('#')[0]:
-            group.append(line.split(':')[0].strip())
+            group.append(crate_of(line.split(':')[0]))
             continue
         if group:
             yield name, group

@@ -12,7 +12,8 @@ openings  every proof file opens with a sentence that says what it shows
 contracts every entry point's contract is an equation for its result and for each `&mut` parameter, so that no second
           answer fits; or docs/PROMISES.md lists it with a theorem that two outcomes which meet it are equal
 requires  every public function with a `requires` is listed in docs/PROMISES.md with its callers
-edits     no must-fail edit was refused only because a proof file no longer fits the code
+edits     no must-fail edit was refused only because a proof file no longer fits the code, or by a limit of the prover (by what
+          `rt ci` said, which scripts/test keeps in target/ci.log)
 lengths   functions of at most 40 lines, lines of at most 160 characters
 refusals  docs/REFUSALS.md has a row for each number of include/refusals.def, which opens with its short words, and no other"""
 import re
@@ -166,13 +167,13 @@ def determined(path: Path, clauses: list[str]) -> bool:
     signature = re.split(r'^\s*ensures', text, flags=re.M)[0]
     ensured = [c.strip() for c in clauses if c.strip().startswith('ensures')]
     result = re.search(r'-> (?:&?\[?)(\w+)', signature)
-    whole = any(re.match(r'ensures \{ λ (\w+)\. ⌜ \(?(now )?\1 ≡', c) for c in ensured)
+    whole = any(re.match(r'ensures (?:\w+ )?\{ \(?result(?:\.now)? ≡', c) for c in ensured)
     if result and not whole:
         struct = re.search(r'struct ' + result.group(1) + r' \{(.*?)\n\}', path.read_text(), re.S)
         fields = re.findall(r'^ *(?:pub )?(\w+):', struct.group(1), re.M) if struct else []
-        whole = bool(fields) and all(re.search(r'⌜[^⌝]*\((\w+) \.' + f + ' ≡', ' '.join(ensured)) for f in fields)
+        whole = bool(fields) and all(re.search(rf'\(result\.{f} ≡', ' '.join(ensured)) for f in fields)
     lent = re.findall(r'(\w+): &mut', signature)
-    return (not result or whole) and all(any(f'now ({m} .exit) ≡' in c for c in ensured) for m in lent)
+    return (not result or whole) and all(any(re.search(rf'\b{m}\.new ≡', c) for c in ensured) for m in lent)
 
 
 def contracts() -> list[str]:
@@ -197,17 +198,17 @@ def contracts() -> list[str]:
 
 
 def edits() -> list[str]:
-    logs = list((HOME / 'target' / 'must-fail').glob('*/*/.log'))
-    print(f'{len(logs)} logs of must-fail edits')
-    there = list((HOME / 'crates').glob('*/must-fail/*.edit'))
-    faults = [] if len(logs) == len(there) else [f'{len(there)} edits, but {len(logs)} logs']
-    for log in logs:
-        text = log.read_text()
-        if 'has no `Need-' in text or 'logic=not-proved' not in text:
-            faults.append(f'{log.parent.parent.name}/{log.parent.name}: it only made a proof file unfit')
-        first = next((line for line in text.splitlines() if ': error' in line), '')
-        if 'is not in scope' in first:
-            faults.append(f'{log.parent.parent.name}/{log.parent.name}: it names what is not in scope')
+    log = HOME / 'target' / 'ci.log'
+    told = dict(re.findall(r'^rt: must-fail (\w+/\w+)\.edit: (.*)$', log.read_text(), re.M)) if log.exists() else {}
+    there = {f'{p.parent.parent.name}/{p.stem}' for p in (HOME / 'crates').glob('*/must-fail/*.edit')}
+    print(f'{len(told)} must-fail edits told of by `rt ci`')
+    faults = [f'{e}: `rt ci` does not tell of it' for e in sorted(there - set(told))]
+    for edit, what in told.items():
+        refused, _, first = what.partition('refused, as it must be: ')
+        if refused or not first:  # only for a limit, or for names that are gone, or not at all
+            faults.append(f'{edit}: {what[:160]}')
+        elif 'is not in scope' in first:
+            faults.append(f'{edit}: it names what is not in scope')
     return faults
 
 

@@ -2,7 +2,7 @@
 """Runs the built listing program as a user would (scripts/run ceoslist), from files and through pipes, and holds it to the oracle.
 
 The cases of tests/examples/listing.py and drawn ones; an image sent byte by byte; a large one under a limit of memory; input and
-output that fail. It says what it ran, and exits with 1 at the first difference. It needs `rt ci` or `rt check ceoslist` before it."""
+output that fail. It says what it ran, and exits with 1 at the first difference. It needs `rt ci`, or `rt run` in crates/ceoslist, before it."""
 import fcntl
 import os
 import random

@@ -12,8 +12,9 @@ from pathlib import Path
 
 HOME = Path(__file__).resolve().parent.parent.parent
 ARCHIVE, SHARED = (HOME / 'target' / 'lib' / f'libseobangyu.{end}' for end in ('a', 'so'))
-# counts, eight at once, each shifted by a byte to the left and to the right; patterns, four at once, their bytes shuffled and packed
-SWAPS = {'sbg_row': ('psllw', 'psrlw'), 'sbg_complex_row': ('pshuflw', 'packuswb')}
+# counts, eight at once, and patterns, four at once: their bytes shuffled (x86-64-v2, for which the kit compiles); before that version's
+# shuffle counts were shifted by a byte to the left and to the right, and patterns shuffled in halves and packed
+SWAPS = {'sbg_row': (('pshufb',), ('psllw', 'psrlw')), 'sbg_complex_row': (('pshufb',), ('pshuflw', 'packuswb'))}
 # x86-64: vfmadd132ss, vfnmsub231ps, .. and vfmaddsub..; AMD's older vfmaddss. aarch64: fmadd, fnmsub, fmla, fmls.
 FUSED = r'vfn?m(?:add|sub)\w*|fn?m(?:add|sub)|fml[as]\w*'
 # x86-64: mulss or mulps, with or without a v; aarch64: fmul.
@@ -39,11 +40,11 @@ def named(text: str, instruction: str) -> list[str]:
 
 def swaps(call: str) -> bool:
     body = code(disassembled(ARCHIVE), call)
-    missing = [word for word in SWAPS[call] if not named(body, word)]
-    if missing:
-        print(f'{call}, {len(body.splitlines())} instructions: it has no {" and no ".join(missing)}, so the copy is not in vectors')
+    way = next((words for words in SWAPS[call] if all(named(body, word) for word in words)), None)
+    if way is None:
+        print(f'{call}, {len(body.splitlines())} instructions: it has none of {SWAPS[call]}, so the copy is not in vectors')
         return False
-    print(f'{call}, {len(body.splitlines())} instructions: it swaps in vectors')
+    print(f'{call}, {len(body.splitlines())} instructions: it swaps in vectors, by {" and ".join(way)}')
     return True
 
 

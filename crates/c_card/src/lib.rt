@@ -44,13 +44,7 @@ fn card_reply(x: Checked) -> Reply
 }
 
 // Builds a card of a whole image and its whole leader; a short buffer is refusal 37.
-#[unsafe(no_mangle)]
-pub extern "C" fn sbg_card_build(
-    image: &[u8],
-    leader: &[u8],
-    card: &mut [u8],
-    answer: &mut [u64],
-) -> u64
+pub fn sbg_card_build(image: &[u8], leader: &[u8], card: &mut [u8], answer: &mut [u64]) -> u64
     ensures value { result ≡ answered (fits 5 answer.old) }
     ensures card_after { card.new ≡ card_behind image.now leader.now card.old answer.old }
     ensures answer_after { answer.new ≡ answer_of (build_says image.now leader.now card.old) answer.old }
@@ -63,8 +57,7 @@ pub extern "C" fn sbg_card_build(
 }
 
 // Judges the bytes as a card.
-#[unsafe(no_mangle)]
-pub extern "C" fn sbg_card(card: &[u8], answer: &mut [u64]) -> u64
+pub fn sbg_card(card: &[u8], answer: &mut [u64]) -> u64
     ensures value { result ≡ answered (fits 5 answer.old) }
     ensures answer_after { answer.new ≡ answer_of (checked_as (check_of card.now)) answer.old }
 {
@@ -76,8 +69,7 @@ pub extern "C" fn sbg_card(card: &[u8], answer: &mut [u64]) -> u64
 }
 
 // The numbers of a card; a short list is refusal 37.
-#[unsafe(no_mangle)]
-pub extern "C" fn sbg_card_numbers(card: &[u8], numbers: &mut [u64], answer: &mut [u64]) -> u64
+pub fn sbg_card_numbers(card: &[u8], numbers: &mut [u64], answer: &mut [u64]) -> u64
     ensures value { result ≡ answered (fits 5 answer.old) }
     ensures numbers_after { numbers.new ≡ numbers_behind card.now numbers.old answer.old }
     ensures answer_after { answer.new ≡ answer_of (checked_as (numbers_of card.now (length numbers.old))) answer.old }

@@ -47,8 +47,7 @@ pub fn copy_reply(x: Copied) -> Reply
 }
 
 // The line view of an image prefix held from byte 0.
-#[unsafe(no_mangle)]
-pub extern "C" fn sbg_line(bytes: &[u8], line: u64, answer: &mut [u64]) -> u64
+pub fn sbg_line(bytes: &[u8], line: u64, answer: &mut [u64]) -> u64
     ensures value { result ≡ answered (fits 5 answer.old) }
     ensures answer_after { answer.new ≡ answer_of (view_as (view_of bytes.now line)) answer.old }
 {
@@ -60,8 +59,7 @@ pub extern "C" fn sbg_line(bytes: &[u8], line: u64, answer: &mut [u64]) -> u64
 }
 
 // The row copy; a short row is refusal 15.
-#[unsafe(no_mangle)]
-pub extern "C" fn sbg_row(bytes: &[u8], line: u64, row: &mut [u16], answer: &mut [u64]) -> u64
+pub fn sbg_row(bytes: &[u8], line: u64, row: &mut [u16], answer: &mut [u64]) -> u64
     ensures value { result ≡ answered (fits 5 answer.old) }
     ensures row_after { row.new ≡ row_behind line bytes.now row.old answer.old }
     ensures answer_after { answer.new ≡ answer_of (copied_as (copied_of bytes.now line (length row.old))) answer.old }

@@ -38,8 +38,7 @@ fn put_value(x: Field, value: &mut [i64])
 }
 
 // A listed field: a value's number and exponent go to the value array.
-#[unsafe(no_mangle)]
-pub extern "C" fn sbg_field(bytes: &[u8], number: u64, value: &mut [i64], answer: &mut [u64]) -> u64
+pub fn sbg_field(bytes: &[u8], number: u64, value: &mut [i64], answer: &mut [u64]) -> u64
     ensures value { result ≡ answered (value_room value.old answer.old) }
     ensures value_after { value.new ≡ field_value number bytes.now value.old answer.old }
     ensures answer_after { answer.new ≡ field_answer number bytes.now value.old answer.old }

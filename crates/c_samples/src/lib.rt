@@ -48,8 +48,7 @@ pub fn power_reply(x: Powered) -> Reply
 }
 
 // One sample of a line, from 0: a count, or two patterns.
-#[unsafe(no_mangle)]
-pub extern "C" fn sbg_sample(bytes: &[u8], line: u64, index: u64, answer: &mut [u64]) -> u64
+pub fn sbg_sample(bytes: &[u8], line: u64, index: u64, answer: &mut [u64]) -> u64
     ensures value { result ≡ answered (fits 5 answer.old) }
     ensures answer_after { answer.new ≡ answer_of (patterned_as (pattern_of bytes.now line index)) answer.old }
 {
@@ -64,8 +63,7 @@ pub extern "C" fn sbg_sample(bytes: &[u8], line: u64, index: u64, answer: &mut [
 }
 
 // Its power, as a pattern.
-#[unsafe(no_mangle)]
-pub extern "C" fn sbg_power(bytes: &[u8], line: u64, index: u64, answer: &mut [u64]) -> u64
+pub fn sbg_power(bytes: &[u8], line: u64, index: u64, answer: &mut [u64]) -> u64
     ensures value { result ≡ answered (fits 5 answer.old) }
     ensures answer_after { answer.new ≡ answer_of (powered_as (power_of bytes.now line index)) answer.old }
 {
@@ -77,13 +75,7 @@ pub extern "C" fn sbg_power(bytes: &[u8], line: u64, index: u64, answer: &mut [u
 }
 
 // The complex row copy: two patterns a sample. A row that is too short is refusal 15.
-#[unsafe(no_mangle)]
-pub extern "C" fn sbg_complex_row(
-    bytes: &[u8],
-    line: u64,
-    row: &mut [u32],
-    answer: &mut [u64],
-) -> u64
+pub fn sbg_complex_row(bytes: &[u8], line: u64, row: &mut [u32], answer: &mut [u64]) -> u64
     ensures value { result ≡ answered (fits 5 answer.old) }
     ensures row_after { row.new ≡ parts_behind line bytes.now row.old answer.old }
     ensures answer_after { answer.new ≡ answer_of (copied_as (parts_copied bytes.now line (length row.old))) answer.old }

@@ -25,8 +25,7 @@ fn set_reply(x: Agreement) -> Reply
 }
 
 // The set check over a closed directory and a list of counts in pointer order.
-#[unsafe(no_mangle)]
-pub extern "C" fn sbg_set(bytes: &[u8], counts: &[u64], answer: &mut [u64]) -> u64
+pub fn sbg_set(bytes: &[u8], counts: &[u64], answer: &mut [u64]) -> u64
     ensures value { result ≡ answered (fits 5 answer.old) }
     ensures answer_after { answer.new ≡ answer_of (agreement_as (set_of bytes.now counts.now)) answer.old }
 {

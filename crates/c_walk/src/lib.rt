@@ -40,8 +40,7 @@ fn stop_reply(x: Stop, count: u64) -> Reply
 }
 
 // A walk is begun: the fresh state of the kind, or refusal 1 and all zeros.
-#[unsafe(no_mangle)]
-pub extern "C" fn sbg_begin(kind: u64, state: &mut [u64], answer: &mut [u64]) -> u64
+pub fn sbg_begin(kind: u64, state: &mut [u64], answer: &mut [u64]) -> u64
     ensures value { result ≡ answered (room state.old answer.old) }
     ensures state_after { state.new ≡ begun_state kind state.old answer.old }
     ensures answer_after { answer.new ≡ begun_answer kind state.old answer.old }
@@ -61,8 +60,7 @@ pub extern "C" fn sbg_begin(kind: u64, state: &mut [u64], answer: &mut [u64]) ->
 }
 
 // The walk: the state is moved in place; a budget of 1 is a step.
-#[unsafe(no_mangle)]
-pub extern "C" fn sbg_walk(
+pub fn sbg_walk(
     state: &mut [u64],
     bytes: &[u8],
     closed: u64,
@@ -89,8 +87,7 @@ pub extern "C" fn sbg_walk(
 }
 
 // The place of the next record's first byte; 0 for a fresh, bad or short state.
-#[unsafe(no_mangle)]
-pub extern "C" fn sbg_start(state: &[u64]) -> u64
+pub fn sbg_start(state: &[u64]) -> u64
     ensures { result ≡ start_in state.now }
 {
     if state.len() < STATE {

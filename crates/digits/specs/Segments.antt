@@ -55,7 +55,9 @@ on_digits Stray g = Stray
 -- behind blanks, the digits from a place up to the point at h, the point, and the digits up to e; Stray where that place is behind the point's
 unfoldable pub pointed_of : List ℕ → ℕ → ℕ → ℕ → Digits
 pointed_of f from h e =
-    pick (leb from h) (on_digits (digits_of 0 (after_blanks (slice from h f))) (λ a. pick (eqb (get_or f h 0) 46) (digits_of a (slice (h + 1) e f)) Stray)) Stray
+    pick (leb from h)
+      (on_digits (digits_of 0 (after_blanks (slice from h f))) (λ a. pick (eqb (get_or f h 0) 46) (digits_of a (slice (h + 1) e f)) Stray))
+      Stray
 
 -- what is to follow a part that was read, or that it was not
 abbrev pub on_part : {A : Type 0} → Part → A → (Bool → ℕ → A) → A

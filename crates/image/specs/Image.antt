@@ -45,7 +45,8 @@ agree_tests sort n l lines w d s =
 
 -- the same, of the numbers that the descriptor says
 abbrev pub agreements : List ℕ → List Test
-agreements r = agree_tests (sort_in r) (number_at r 181 I6) (number_at r 187 I6) (number_at r 237 I8) (number_at r 249 I8) (number_at r 281 I8) (number_at r 289 I4)
+agreements r =
+    agree_tests (sort_in r) (number_at r 181 I6) (number_at r 187 I6) (number_at r 237 I8) (number_at r 249 I8) (number_at r 281 I8) (number_at r 289 I4)
 
 -- the fixed texts: every first record's, and the sort's at 429
 abbrev pub image_texts : List ℕ → List Test

@@ -36,7 +36,8 @@ Demand2 W = (kind : Kind) (bs : List ℕ) (n : ℕ) → planned_total kind bs < 
 -- demand 3: begun fresh, open, at a record's end, with a budget above the planned records or any that does not pause, it waits exactly when some
 -- accepted file begins with the bytes and refuses exactly when none does
 abbrev pub Demand3 : Walk → Type 0
-Demand3 W = (kind : Kind) (bs : List ℕ) (n : ℕ) → (planned_total kind bs < n) ⊎ ((W n (fresh (kind_number kind)) bs false).stop ≡ Pause → ⊥) → AtRecordEnd kind bs
+Demand3 W = (kind : Kind) (bs : List ℕ) (n : ℕ) → (planned_total kind bs < n) ⊎ ((W n (fresh (kind_number kind)) bs false).stop ≡ Pause → ⊥)
+    → AtRecordEnd kind bs
     → (Waits (W n (fresh (kind_number kind)) bs false).stop ↔ Starts kind bs) × (Refuses (W n (fresh (kind_number kind)) bs false).stop ↔ (Starts kind bs → ⊥))
 
 -- the count is the state's difference

@@ -10,8 +10,8 @@ use Rattle.decimal.specs.Examples as decimal-examples
 use Rattle.bad_byte.specs.Columns.{bad_in, bad_from}
 use Rattle.fields.specs.Field.{field_at, field_as}
 use Rattle.plan.specs.Tables.{slot_of, other_codes, sort_of}
-use Rattle.plan.specs.Plan.{total_of, sum_of, run_counts, run_lengths, first_length, spot_of, spot_from, codes_of, all_zero, zero_plan?, plan_good, image_good, first_codes}
-use Rattle.plan.specs.Plan.{volume_good, leader_good, slots_good}
+use Rattle.plan.specs.Plan.{total_of, sum_of, run_counts, run_lengths, first_length, spot_of, spot_from, codes_of, all_zero, zero_plan?}
+use Rattle.plan.specs.Plan.{plan_good, image_good, first_codes, volume_good, leader_good, slots_good}
 use Rattle.verdicts.specs.Tests.{first_fault, text_at}
 use Rattle.verdicts.specs.Numbers.{numbers_tests}
 use Rattle.volume.specs.Volume.{volume_record}
@@ -103,8 +103,8 @@ due =
     ∷ [])
 
 pub p_table : answers ≡ due
-unfolding bad_in bad_from written decimal_of number_in mantissa_of exponent_of two_at four_at place_of field_at slot_of other_codes sort_of total_of sum_of run_counts
-    run_lengths first_length spot_of spot_from codes_of first_codes all_zero zero_plan? plan_good image_good volume_good leader_good slots_good first_fault text_at body_of
-    body_tests image_record image_tests numbers_tests agree_tests line_tests volume_record leader_record trailer_tests plan_of good_state walk_of judge_of header_of
-    header_tests codes_are ended_of short_of next_of bad_stop
+unfolding bad_in bad_from written decimal_of number_in mantissa_of exponent_of two_at four_at place_of field_at slot_of other_codes sort_of total_of
+    sum_of run_counts run_lengths first_length spot_of spot_from codes_of first_codes all_zero zero_plan? plan_good image_good volume_good leader_good
+    slots_good first_fault text_at body_of body_tests image_record image_tests numbers_tests agree_tests line_tests volume_record leader_record
+    trailer_tests plan_of good_state walk_of judge_of header_of header_tests codes_are ended_of short_of next_of bad_stop
 p_table = refl

@@ -247,8 +247,8 @@ def repeat(seed: int, only: str) -> int:
 
 def listings(seed: int) -> bool:
     """The listing program on drawn images, if it is built: its rows are the oracle's."""
-    if not (HOME / 'target' / 'bin' / 'ceoslist').exists():
-        print('  the listing program is not built (rt check ceoslist): it was not asked')
+    if not (HOME / 'crates' / 'ceoslist' / 'out' / 'ceoslist').exists():
+        print('  the listing program is not built (rt run in crates/ceoslist): it was not asked')
         return True
     for number in range(LISTINGS):
         data = sorts.listed_file(drawn((seed, 'ceoslist', number)), number)
