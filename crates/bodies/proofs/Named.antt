@@ -16,7 +16,7 @@ use Rattle.plan.specs.declared.Plan.{Plan}
 use Rattle.verdicts.specs.Numbers.{number_at, numbers_tests}
 use Rattle.volume.specs.Volume.{volume_numbers, volume_tests, volume_record}
 use Rattle.leader.specs.Leader.{pair, pairs, pair_row, admitted, admitted_pair, count_at, length_at, pair_tests, leader_tests, leader_record, counts_of, lengths_of}
-use Rattle.image.specs.Image.{sort_in, image_numbers, image_texts, agree_tests, agreements, image_tests, image_record}
+use Rattle.image.specs.Image.{sort_in, image_numbers, agree_tests, agreements, image_tests, image_record}
 use Rattle.bodies.specs.Bodies.{body_tests, body_of}
 use Rattle.bodies.specs.Named.{plan_of}
 use Rattle.verdicts.specs.declared.Verdict.TheVariants.{Fine}

@@ -3,7 +3,6 @@ use mathlib.Core.Path.{◌∙◌}
 use borrow.Author.Tests.{eq-eqb, ne_eqb}
 use Rattle.image.specs.Image.{image_record}
 use Rattle.bodies.specs.Bodies.{body_tests, body_of, trailer_tests}
-use Rattle.volume.proofs.record.Reads as record-reads'
 use Rattle.bodies.proofs.later.Goals as goal
 
 pub returns-then-kind-eq-VOLUME : goal.returns-then-kind-eq-VOLUME
