@@ -16,7 +16,7 @@ codes_number sort = (50 * 256 + (sort_of sort).code) * 65536 + (18 * 256 + 20)
 unfoldable pub line_fine : ℕ → ℕ → ℕ → ℕ → List ℕ → Bool
 line_fine sort w l k b =
     pick (ltb (length b) l) false
-      (pick (ltb l 32) false (both_of (all_hold (header_tests (k + 1) (line_codes sort) l b)) (all_hold (line_tests w k (take l b)))))
+    (pick (ltb l 32) false (both_of (all_hold (header_tests (k + 1) (line_codes sort) l b)) (all_hold (line_tests w k (take l b)))))
 
 -- how many are so from line k on, at most so many
 unfoldable pub lines_fine : ℕ → ℕ → ℕ → ℕ → ℕ → List ℕ → ℕ

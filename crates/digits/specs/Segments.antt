@@ -56,8 +56,8 @@ on_digits Stray g = Stray
 unfoldable pub pointed_of : List ℕ → ℕ → ℕ → ℕ → Digits
 pointed_of f from h e =
     pick (leb from h)
-      (on_digits (digits_of 0 (after_blanks (slice from h f))) (λ a. pick (eqb (get_or f h 0) 46) (digits_of a (slice (h + 1) e f)) Stray))
-      Stray
+    (on_digits (digits_of 0 (after_blanks (slice from h f))) (λ a. pick (eqb (get_or f h 0) 46) (digits_of a (slice (h + 1) e f)) Stray))
+    Stray
 
 -- what is to follow a part that was read, or that it was not
 abbrev pub on_part : {A : Type 0} → Part → A → (Bool → ℕ → A) → A
