@@ -91,7 +91,8 @@ module _ (sort w l k : ℕ) (b : List ℕ) where
   unfolding line_fine
   no_room h n = rw (le-ltb (length b) l h, lt-ltb l 32 n)
 
-  pub tested : l ≤ length b → 32 ≤ l → both_of (all_hold (header_tests (k + 1) (line_codes sort) l b)) (all_hold (line_tests w k (take l b))) ≡ line_fine sort w l k b
+  pub tested : l ≤ length b → 32 ≤ l →
+      both_of (all_hold (header_tests (k + 1) (line_codes sort) l b)) (all_hold (line_tests w k (take l b))) ≡ line_fine sort w l k b
   unfolding line_fine
   tested h n = rw (le-ltb (length b) l h, le-ltb l 32 n)
 
@@ -108,7 +109,8 @@ module _ (sort w l k : ℕ) (b : List ℕ) where
             whole = ltb-false (length b) l h;
             head = all_fine (header_tests (k + 1) (line_codes sort) l b)
                 (both_l (all_hold (header_tests (k + 1) (line_codes sort) l b)) (all_hold (line_tests w k (take l b))) all);
-            body = all_fine (line_tests w k (take l b)) (both_r (all_hold (header_tests (k + 1) (line_codes sort) l b)) (all_hold (line_tests w k (take l b))) all);
+            body = all_fine (line_tests w k (take l b))
+                (both_r (all_hold (header_tests (k + 1) (line_codes sort) l b)) (all_hold (line_tests w k (take l b))) all);
           }
 
 -- the count of lines, by its cases

@@ -15,7 +15,8 @@ use Rattle.plan.specs.Plan.{plan_good, volume_good, leader_good, image_good, zer
 use Rattle.plan.specs.declared.Plan.{Plan}
 use Rattle.verdicts.specs.Numbers.{number_at, numbers_tests}
 use Rattle.volume.specs.Volume.{volume_numbers, volume_tests, volume_record}
-use Rattle.leader.specs.Leader.{pair, pairs, pair_row, admitted, admitted_pair, count_at, length_at, pair_tests, leader_tests, leader_record, counts_of, lengths_of}
+use Rattle.leader.specs.Leader.{pair, pairs, pair_row, admitted, admitted_pair, count_at}
+use Rattle.leader.specs.Leader.{length_at, pair_tests, leader_tests, leader_record, counts_of, lengths_of}
 use Rattle.image.specs.Image.{sort_in, image_numbers, agree_tests, agreements, image_tests, image_record}
 use Rattle.bodies.specs.Bodies.{body_tests, body_of}
 use Rattle.bodies.specs.Named.{plan_of}
@@ -37,7 +38,8 @@ slot_good_lem i c l a none some = rw (true_within (slot_of i).least c (slot_of i
     go true e = eq-eqb l 0 (none (eqb-true c 0 e))
     go false e = let b = some (eqb-false c 0 e) in true_within (slot_of i).shortest l (slot_of i).longest b.0 b.1
 
-pub slots_good_lem : (i m : ℕ) (cs ls : List ℕ) → ((k : ℕ) → i ≤ k → k < i + m → slot_good k (get_or cs k 0) (get_or ls k 0) ≡ true) → slots_good i m cs ls ≡ true
+pub slots_good_lem : (i m : ℕ) (cs ls : List ℕ) → ((k : ℕ) → i ≤ k → k < i + m → slot_good k (get_or cs k 0) (get_or ls k 0) ≡ true) →
+    slots_good i m cs ls ≡ true
 unfolding slots_good
 slots_good_lem i zero cs ls h = refl
 slots_good_lem i (suc m) cs ls h =

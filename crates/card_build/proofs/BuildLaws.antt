@@ -51,7 +51,8 @@ module _ (n k at l to : ℕ) (bs out new : List ℕ) where
   lines_next left count h r p q e =
       let on : List ℕ = lines_bytes (n - (k + 1)) (k + 1) (at + l) l bs in
       ap (λ (f : ℕ). written out to (lines_bytes f k at l bs)) (less_one n k h)
-      ∙ ap (λ (i : ℕ). written out to (line_bytes i (four_at bs (at + place_of 21)) (four_at bs (at + place_of 25)) ++ lines_bytes (n - (k + 1)) i (at + l) l bs))
+      ∙ ap (λ (i : ℕ). written out to
+      (line_bytes i (four_at bs (at + place_of 21)) (four_at bs (at + place_of 25)) ++ lines_bytes (n - (k + 1)) i (at + l) l bs))
       (sym (add-one k))
       ∙ ap₂ (λ (x y : ℕ). written out to (line_bytes (k + 1) x y ++ on)) (sym p) (sym q)
       ∙ entry_on out to (to + 13) (line_bytes (k + 1) left count) on new refl (omega (arith, lines_long (n - (k + 1)) (k + 1) (at + l) l bs)) e

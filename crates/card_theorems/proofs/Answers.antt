@@ -79,7 +79,8 @@ module _ (bs ls : List ℕ) (a : Accepted image bs) (b : Accepted leader ls) whe
   built_is : (m : ℕ) → built_of bs ls m ≡ fitted_of (image_plan bs) (leader_plan ls) m
   unfolding built_of
   built_is m =
-      ap₂ (λ (x y : Stop). built_behind x (built_behind y (fitted_of (image_plan bs) (leader_plan ls) m))) (file image bs a).complete (file leader ls b).complete
+      ap₂ (λ (x y : Stop). built_behind x (built_behind y (fitted_of (image_plan bs) (leader_plan ls) m))) (file image bs a).complete
+      (file leader ls b).complete
 
   card_is : (out : List ℕ) → card_of bs ls out ≡ fitted_card (image_plan bs) (leader_plan ls) bs out
   unfolding card_of

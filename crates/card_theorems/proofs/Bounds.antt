@@ -35,7 +35,8 @@ area (c ∷ cs) (l ∷ ls) = c * l + area cs ls
 
 -- counts and lengths in range from row j on
 Ranged : ℕ → List ℕ → List ℕ → Type 0
-Ranged j cs ls = (i : ℕ) → i < length cs → (get_or cs i 0 ≤ (slot_of (j + i)).most) × (get_or cs i 0 * get_or ls i 0 ≤ (slot_of (j + i)).most * (slot_of (j + i)).longest)
+Ranged j cs ls = (i : ℕ) → i < length cs → (get_or cs i 0 ≤ (slot_of (j + i)).most) ×
+    (get_or cs i 0 * get_or ls i 0 ≤ (slot_of (j + i)).most * (slot_of (j + i)).longest)
 
 later : (j c : ℕ) (cs : List ℕ) (l : ℕ) (ls : List ℕ) → Ranged j (c ∷ cs) (l ∷ ls) → Ranged (suc j) cs ls
 unfolding Ranged
@@ -93,7 +94,8 @@ module _ (q : Plan) (g : plan_good leader q ≡ true) (cs : length q.counts ≡ 
   unfolding Ranged
   ranged i h =
       let z : 0 + i ≡ i = omega arith in
-      subst (λ (j : ℕ). (get_or q.counts i 0 ≤ (slot_of j).most) × (get_or q.counts i 0 * get_or q.lengths i 0 ≤ (slot_of j).most * (slot_of j).longest)) (sym z)
+      subst (λ (j : ℕ). (get_or q.counts i 0 ≤ (slot_of j).most) ×
+      (get_or q.counts i 0 * get_or q.lengths i 0 ≤ (slot_of j).most * (slot_of j).longest)) (sym z)
       (row i
       (subst (λ (j : ℕ). slot_good j (get_or q.counts j 0) (get_or q.lengths j 0) ≡ true) z (slot_each 0 17 q.counts q.lengths slots i (omega arith))))
     where

@@ -43,7 +43,8 @@ blanks : (xs : List ℕ) → (b : ℕ) × (xs ≡ replicate b 32 ++ after_blanks
 blanks [] = (0, refl)
 blanks (c ∷ cs) = go (eqb c 32) refl (blanks cs)
   where
-    go : (b : Bool) → eqb c 32 ≡ b → (n : ℕ) × (cs ≡ replicate n 32 ++ after_blanks cs) → (n : ℕ) × (c ∷ cs ≡ replicate n 32 ++ pick b (after_blanks cs) (c ∷ cs))
+    go : (b : Bool) → eqb c 32 ≡ b → (n : ℕ) × (cs ≡ replicate n 32 ++ after_blanks cs) → (n : ℕ) ×
+        (c ∷ cs ≡ replicate n 32 ++ pick b (after_blanks cs) (c ∷ cs))
     go true e r = (suc r.0, cc (eqb-true c 32 e))
     go false e r = (0, refl)
 
@@ -91,7 +92,8 @@ sign p [] s a e = bare_head p [] s a e
 sign p (c ∷ cs) s a e = go (eqb c 45) (eqb c 43) refl refl e
   where
     go : (b b' : Bool) → eqb c 45 ≡ b → eqb c 43 ≡ b'
-        → pick b (with_sign true (digits_of 0 (after_gap p cs))) (pick b' (with_sign false (digits_of 0 (after_gap p cs))) (with_sign false (digits_of 0 (c ∷ cs))))
+        → pick b (with_sign true (digits_of 0 (after_gap p cs)))
+        (pick b' (with_sign false (digits_of 0 (after_gap p cs))) (with_sign false (digits_of 0 (c ∷ cs))))
         ≡ Signed s a → Head p (c ∷ cs) s a
     go true b' m q h = rw (eqb-true c 45 m) (signed_head p minus cs s a h)
     go false true m q h = rw (eqb-true c 43 q) (signed_head p plus cs s a h)
@@ -108,7 +110,8 @@ taken : (p : Bool) (hs : List ℕ) (o : Bool) (ps : List ℕ) (s : Bool) (a : �
     → on_part (head_of p hs) Wrong (λ s a. pick o (with_sign s (digits_of a ps)) Wrong) ≡ Signed s a → Taken p hs o ps s a
 taken p hs o ps s a e = go (head_of p hs) o refl refl e
   where
-    go : (x : Part) (b : Bool) → head_of p hs ≡ x → o ≡ b → on_part x Wrong (λ s a. pick b (with_sign s (digits_of a ps)) Wrong) ≡ Signed s a → Taken p hs o ps s a
+    go : (x : Part) (b : Bool) → head_of p hs ≡ x → o ≡ b → on_part x Wrong (λ s a. pick b (with_sign s (digits_of a ps)) Wrong) ≡ Signed s a →
+        Taken p hs o ps s a
     go (Signed u n) true q r f =
         let v = unsigned u (digits_of n ps) s a f in
         record { number = n; front = q ∙ ap (λ (w : Bool). Signed w n) v.0; point = r; places = v.1 }

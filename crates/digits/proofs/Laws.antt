@@ -131,7 +131,8 @@ pub signed : (c : ℕ) (cs : List ℕ) → (c ≡ 32 → ⊥) → sign_of true (
 signed c cs n = go (eqb c 45) (eqb c 43)
   where
     go : (a b : Bool)
-        → pick a (with_sign true (digits_of 0 (after_blanks cs))) (pick b (with_sign false (digits_of 0 (after_blanks cs))) (with_sign false (digits_of 0 (c ∷ cs))))
+        → pick a (with_sign true (digits_of 0 (after_blanks cs)))
+        (pick b (with_sign false (digits_of 0 (after_blanks cs))) (with_sign false (digits_of 0 (c ∷ cs))))
         ≡ with_sign a (digits_of 0 (after_blanks (drop (pick a 1 (pick b 1 0)) (c ∷ cs))))
     go true b = refl
     go false true = refl

@@ -127,7 +127,8 @@ at_point f h end = rw (none f h h (omega arith) (omega arith)) (go (eqb (get_or 
     bare false e = ap (with_sign false) (sym (pointless f h h end 0 (omega arith) empty (eqb-false (get_or f h 0) 46 e)))
 
     go : (a b : Bool) → eqb (get_or f h 0) 45 ≡ a → eqb (get_or f h 0) 43 ≡ b
-        → pick (eqb (get_or f h 0) 46) (with_sign false (digits_of 0 (slice (h + 1) end f))) Wrong ≡ with_sign a (pointed_of f (h + pick a 1 (pick b 1 0)) h end)
+        → pick (eqb (get_or f h 0) 46) (with_sign false (digits_of 0 (slice (h + 1) end f))) Wrong ≡ with_sign a
+        (pointed_of f (h + pick a 1 (pick b 1 0)) h end)
     go true b p q =
         let e : get_or f h 0 ≡ 45 = eqb-true (get_or f h 0) 45 p in
         rw (late f (h + 1) h end (omega arith), ne_eqb (get_or f h 0) 46 (omega arith))

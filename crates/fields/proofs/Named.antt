@@ -145,7 +145,8 @@ module _ (b : List ℕ) (at : ℕ) (k : Form) (here : at + width_of k ≤ length
   field_named =
       record {
         value = λ m e. (
-          λ q. of_read k (field_bytes b at k) (Number m e) (value_of (bad_place b at k) _ m e (sym told ∙ q)) (λ z. let c : ◌≡◌ {A = ℕ} 0 1 = cc in omega arith),
+          λ q. of_read k (field_bytes b at k) (Number m e) (value_of (bad_place b at k) _ m e (sym told ∙ q))
+              (λ z. let c : ◌≡◌ {A = ℕ} 0 1 = cc in omega arith),
           λ f. answered (reads k (field_bytes b at k) (Number m e) f),
         );
         blanked = (
@@ -153,7 +154,8 @@ module _ (b : List ℕ) (at : ℕ) (k : Form) (here : at + width_of k ≤ length
               let f = of_read k (field_bytes b at k) Blank (blank_of (bad_place b at k) _ (sym told ∙ q)) (λ z. let c : ◌≡◌ {A = ℕ} 0 1 = cc in omega arith) in
               all_blank f.1 refl ∙ ap (λ (i : ℕ). replicate i 32) bs_length,
           λ e. answered
-              (reads k (field_bytes b at k) Blank (bs_length, subst (λ (l : List ℕ). Good true (shape_of k) l Blank) (sym e) (blanks (shape_of k) (width_of k)))),
+              (reads k (field_bytes b at k) Blank
+              (bs_length, subst (λ (l : List ℕ). Good true (shape_of k) l Blank) (sym e) (blanks (shape_of k) (width_of k)))),
         );
         refused = λ p. (
           λ q. let o = bad_of (bad_place b at k) _ p (sym told ∙ q) in (bad_in (shape_of k) (field_bytes b at k), sym o.1, pointed o.0),

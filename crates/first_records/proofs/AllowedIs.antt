@@ -13,7 +13,8 @@ use borrow.Author.Tests.{eq-eqb, eqb-true, le-leb, leb-true, ne_eqb}
 use Rattle.words.specs.Tests.{pick, both_of, within_of}
 use Rattle.words.proofs.Laws.{both_l, both_r, both_make, within_true, true_within}
 use Rattle.plan.specs.Tables.{rows, slot, slots, slot_of, facility, last_sort}
-use Rattle.plan.specs.Plan.{group_of, ahead_of, all_zero, slots_zero?, image_zero?, zero_plan?, slot_good, slots_good, volume_good, leader_good, image_good, plan_good}
+use Rattle.plan.specs.Plan.{group_of, ahead_of, all_zero, slots_zero?, image_zero?, zero_plan?}
+use Rattle.plan.specs.Plan.{slot_good, slots_good, volume_good, leader_good, image_good, plan_good}
 use Rattle.plan.specs.declared.Plan.{Plan}
 use Rattle.plan.specs.declared.Slot.{Slot}
 use Rattle.plan.proofs.Bounds.{zero_each, slot_each}

@@ -76,7 +76,8 @@ module _ (kind : Kind) (p : Plan) (c : length p.counts ≡ rows) (l : length p.l
             r ++ ys,
             bytes_join r ys b y,
             behind_turn st (r ++ ys) d gs t
-                ∙ ap (λ (s : State). (walk_of d s (drop (next_due st).length (r ++ ys)) false).state) (sym (next_as_later st (r ++ ys) p (λ z. omega arith) refl))
+                ∙ ap (λ (s : State). (walk_of d s (drop (next_due st).length (r ++ ys)) false).state)
+                (sym (next_as_later st (r ++ ys) p (λ z. omega arith) refl))
                 ∙ ap (λ (zs : List ℕ). (walk_of d (after (k + 1)) zs false).state) (drop_at r ys (next_due st).length size)
                 ∙ e
                 ∙ ap after (let q : k + 1 + d ≡ k + suc d = omega arith in q),

@@ -37,7 +37,11 @@ module _ (kind : Kind) (p : Plan) (c : length p.counts ≡ rows) (l : length p.l
   known = true_within 1 (kind_number kind) 4 (kind_low kind).0 (kind_low kind).1
 
   lawful_to : (k : ℕ) → good_state (at (kind_number kind) p k) ≡ true → Lawful kind (at (kind_number kind) p k)
-  lawful_to zero g = inl (refl, (zeros_are p).0 (both_r (within_of 1 (kind_number kind) 4) (zero_plan? p) (sym (good_zero (at (kind_number kind) p 0) refl) ∙ g)))
+  lawful_to zero g = inl (
+    refl,
+    (zeros_are p).0
+        (both_r (within_of 1 (kind_number kind) 4) (zero_plan? p) (sym (good_zero (at (kind_number kind) p 0) refl) ∙ g)),
+  )
   lawful_to (suc k) g =
       let h = good_later (at (kind_number kind) p (suc k)) g (λ z. omega arith) in
       inr (omega arith, omega (arith, h.1, promised_length kind p c l), (allowed_named kind p c l).0 h.0)

@@ -80,7 +80,8 @@ left sort r i = each (row_tests r) (slice i 8 (image_numbers sort))
 module _ (sort : ℕ) (r : List ℕ) (i : ℕ) {f : Field} (e : f ≡ number_field r (image_row sort i)) where
   row_verdict : fault_of f ≡ first_fault (row_tests r (image_row sort i))
   row_verdict = ap fault_of e
-      ∙ needed_fault (place_of (image_row sort i).byte) (last_of (image_row sort i).byte (image_row sort i).form) (image_row sort i).least (image_row sort i).most
+      ∙ needed_fault (place_of (image_row sort i).byte) (last_of (image_row sort i).byte (image_row sort i).form) (image_row sort i).least
+      (image_row sort i).most
       (at r (image_row sort i).byte (image_row sort i).form)
 
   -- a field that is no value has the first fault of what is left
@@ -185,7 +186,8 @@ module _ (w k : ℕ) (r : List ℕ) where
     other_index b = rw (eq-eqb (four_at r (place_of 13)) k a, ne_eqb (four_at r (place_of 17)) 1 b)
 
     module _ (b : four_at r (place_of 17) ≡ 1) where
-      pub other_sum : (four_at r (place_of 21) + four_at r (place_of 25) + four_at r (place_of 29) ≡ w → ⊥) → first_fault (line_tests w k r) ≡ Fault 10 (place_of 21)
+      pub other_sum : (four_at r (place_of 21) + four_at r (place_of 25) + four_at r (place_of 29) ≡ w → ⊥) →
+          first_fault (line_tests w k r) ≡ Fault 10 (place_of 21)
       unfolding line_tests first_fault
       other_sum e =
           rw (

@@ -130,7 +130,8 @@ module _ (r : List ℕ) (x : Pair) (f : Field) (e : f ≡ counted_of (at r x.byt
             let v = ap (λ (z : Held). z.verdict) h in
             record { verdict = v ∙ of_length; count = λ z. absurd (not_fine (v ∙ s) z); length = λ z. absurd (not_fine (v ∙ s) z) }
 
-        pub pair_held : {l m : ℤ} → g ≡ Value l m → (a b : ℕ) → a ≡ whole_of c → b ≡ whole_of l → PairRead r x (record { verdict = Fine; count = a; length = b })
+        pub pair_held : {l m : ℤ} → g ≡ Value l m → (a b : ℕ) → a ≡ whole_of c → b ≡ whole_of l →
+            PairRead r x (record { verdict = Fine; count = a; length = b })
         pair_held {l} {m} o a b i j =
             record {
               verdict = sym (ap fault_of o) ∙ of_length;

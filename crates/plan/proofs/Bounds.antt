@@ -28,7 +28,8 @@ zero_each (x ∷ xs) e zero = eqb-true x 0 (both_l (eqb x 0) (all_zero xs) e)
 zero_each (x ∷ xs) e (suc i) = zero_each xs (both_r (eqb x 0) (all_zero xs) e) i
 
 -- slots that are all good
-pub slot_each : (j m : ℕ) (cs ls : List ℕ) → slots_good j m cs ls ≡ true → (k : ℕ) → k < m → slot_good (j + k) (get_or cs (j + k) 0) (get_or ls (j + k) 0) ≡ true
+pub slot_each : (j m : ℕ) (cs ls : List ℕ) → slots_good j m cs ls ≡ true → (k : ℕ) → k < m →
+    slot_good (j + k) (get_or cs (j + k) 0) (get_or ls (j + k) 0) ≡ true
 unfolding slots_good
 slot_each j zero cs ls e k h = absurd (omega arith)
 slot_each j (suc m) cs ls e zero h =

@@ -12,7 +12,8 @@ use borrow.Author.Tests.{eq-eqb, ne_eqb, eqb-true, leb-true}
 use Rattle.words.specs.Tests.{both_of, within_of}
 use Rattle.words.proofs.Laws.{both_false, both_l, both_r, within_true}
 use Rattle.plan.specs.Tables.{rows, slot_of, last_sort}
-use Rattle.plan.specs.Plan.{volume, leader, image, trailer, group_of, ahead_of, all_zero, slots_zero?, slot_good, slots_good, volume_good, leader_good, image_good}
+use Rattle.plan.specs.Plan.{volume, leader, image, trailer, group_of, ahead_of}
+use Rattle.plan.specs.Plan.{all_zero, slots_zero?, slot_good, slots_good, volume_good, leader_good, image_good}
 use Rattle.plan.specs.Plan.{image_ranges, image_agrees, zero_plan?, plan_good}
 use Rattle.plan.specs.declared.Plan.{Plan}
 use Rattle.plan.proofs.CodeLaws.{sort_ahead}

@@ -24,7 +24,8 @@ module _ (i k at : ℕ) (cs ls : List ℕ) (p : i < length cs) (q : i < length l
   unfolding spot_from
   spot_at = rw (drop_more cs i p, drop_more ls i q)
 
-  pub spot_here : k < get_or cs i 0 → spot_from (i + 1) (drop i cs) (drop i ls) k at ≡ record { run = i + 1; length = get_or ls i 0; start = at + k * get_or ls i 0 }
+  pub spot_here : k < get_or cs i 0 →
+      spot_from (i + 1) (drop i cs) (drop i ls) k at ≡ record { run = i + 1; length = get_or ls i 0; start = at + k * get_or ls i 0 }
   spot_here h = spot_at ∙ simp (lt-ltb _ _ h)
 
   pub spot_next : get_or cs i 0 ≤ k

@@ -10,7 +10,8 @@ use Rattle.digits.specs.Segments.{mantissa_of, exponent_of}
 use Rattle.decimal.specs.Scan.{written, decimal_of, number_in}
 use Rattle.fields.specs.Field.{field_at}
 use Rattle.plan.specs.Tables.{slot_of, other_codes, sort_of}
-use Rattle.plan.specs.Plan.{total_of, sum_of, run_counts, run_lengths, first_length, spot_of, spot_from, codes_of, all_zero, zero_plan?, plan_good, image_good, first_codes}
+use Rattle.plan.specs.Plan.{total_of, sum_of, run_counts, run_lengths, first_length, spot_of}
+use Rattle.plan.specs.Plan.{spot_from, codes_of, all_zero, zero_plan?, plan_good, image_good, first_codes}
 use Rattle.plan.specs.Plan.{volume_good, leader_good, slots_good}
 use Rattle.verdicts.specs.Tests.{first_fault, text_at}
 use Rattle.verdicts.specs.Numbers.{numbers_tests}
@@ -42,8 +43,10 @@ ours_counted n st bs c = counted n st bs c
 
 -- the listed image is an accepted file, and the empty file is no trailer
 listed_complete : (walk_of 4 (fresh 3) listed true).stop ≡ Complete
-unfolding written decimal_of number_in mantissa_of exponent_of two_at four_at place_of field_at slot_of other_codes sort_of total_of sum_of run_counts run_lengths
-    first_length spot_of spot_from codes_of first_codes all_zero zero_plan? plan_good image_good volume_good leader_good slots_good first_fault text_at body_of body_tests
+unfolding written decimal_of number_in mantissa_of exponent_of two_at four_at place_of field_at slot_of other_codes sort_of total_of sum_of
+    run_counts run_lengths
+    first_length spot_of spot_from codes_of first_codes all_zero zero_plan? plan_good image_good volume_good leader_good slots_good first_fault
+    text_at body_of body_tests
     image_record image_tests numbers_tests agree_tests line_tests volume_record leader_record trailer_tests plan_of good_state walk_of judge_of header_of
     header_tests codes_are ended_of short_of next_of bad_stop
 listed_complete = refl
@@ -87,8 +90,10 @@ wrong : List ℕ
 wrong = descriptor "     2" ++ line 1 0 3 0 ++ line 7 1 2 0
 
 wrong_refused : (walk_of 4 (fresh 3) wrong true).stop ≡ Complete → ⊥
-unfolding wrong written decimal_of number_in mantissa_of exponent_of two_at four_at place_of field_at slot_of other_codes sort_of total_of sum_of run_counts run_lengths
-    first_length spot_of spot_from codes_of first_codes all_zero zero_plan? plan_good image_good volume_good leader_good slots_good first_fault text_at body_of body_tests
+unfolding wrong written decimal_of number_in mantissa_of exponent_of two_at four_at place_of field_at slot_of other_codes sort_of total_of sum_of
+    run_counts run_lengths
+    first_length spot_of spot_from codes_of first_codes all_zero zero_plan? plan_good image_good volume_good leader_good slots_good first_fault
+    text_at body_of body_tests
     image_record image_tests numbers_tests agree_tests line_tests volume_record leader_record trailer_tests plan_of good_state walk_of judge_of header_of
     header_tests codes_are ended_of short_of next_of bad_stop
 wrong_refused e = let z : ◌≡◌ {A = ℕ} 0 1 = cc in omega arith
@@ -98,9 +103,12 @@ unfolding wrong written decimal_of number_in mantissa_of exponent_of two_at four
 wrong_planned = omega arith
 
 wrong_waved : (waver 4 (fresh 3) wrong true).stop ≡ Complete
-unfolding wrong waver written decimal_of number_in mantissa_of exponent_of two_at four_at place_of field_at slot_of other_codes sort_of total_of sum_of run_counts
-    run_lengths first_length spot_of spot_from codes_of first_codes all_zero zero_plan? plan_good image_good volume_good leader_good slots_good first_fault text_at body_of
-    body_tests image_record image_tests numbers_tests agree_tests line_tests volume_record leader_record trailer_tests plan_of good_state walk_of judge_of header_of
+unfolding wrong waver written decimal_of number_in mantissa_of exponent_of two_at four_at place_of field_at slot_of other_codes sort_of total_of
+    sum_of run_counts
+    run_lengths first_length spot_of spot_from codes_of first_codes all_zero zero_plan? plan_good image_good volume_good leader_good slots_good
+    first_fault text_at body_of
+    body_tests image_record image_tests numbers_tests agree_tests line_tests volume_record leader_record trailer_tests plan_of good_state walk_of
+    judge_of header_of
     header_tests codes_are ended_of short_of next_of bad_stop
 wrong_waved = refl
 

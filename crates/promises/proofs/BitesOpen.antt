@@ -39,7 +39,8 @@ unfolding strange four_at two_at place_of
 strange_end = (strange ∷ [], refl, (omega arith, (inl refl, tt)))
 
 strange_refused : Refuses (walk_of 9 (fresh 4) strange false).stop
-unfolding strange four_at two_at place_of other_codes total_of sum_of run_counts run_lengths first_length spot_of codes_of first_codes all_zero zero_plan? good_state walk_of
+unfolding strange four_at two_at place_of other_codes total_of sum_of run_counts run_lengths first_length spot_of codes_of first_codes all_zero
+    zero_plan? good_state walk_of
     judge_of header_of header_tests first_fault
 strange_refused = (record { number = 3; «record» = 1; place = 0 }, refl)
 

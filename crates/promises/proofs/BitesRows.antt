@@ -40,23 +40,29 @@ ours_keeps = row_kept
 
 -- line 1 of the listed image: three pixels, all 0
 listed_shown : view_of listed 1 ≡ Shown 912 3 0
-unfolding written decimal_of number_in mantissa_of exponent_of two_at four_at place_of field_at slot_of other_codes sort_of total_of sum_of run_counts run_lengths
-    first_length spot_of spot_from codes_of first_codes all_zero zero_plan? plan_good image_good volume_good leader_good slots_good first_fault text_at body_of body_tests
+unfolding written decimal_of number_in mantissa_of exponent_of two_at four_at place_of field_at slot_of other_codes sort_of total_of sum_of
+    run_counts run_lengths
+    first_length spot_of spot_from codes_of first_codes all_zero zero_plan? plan_good image_good volume_good leader_good slots_good first_fault
+    text_at body_of body_tests
     image_record image_tests numbers_tests agree_tests line_tests volume_record leader_record trailer_tests plan_of good_state walk_of judge_of header_of
     header_tests codes_are ended_of short_of next_of bad_stop shown_of found_in line_at line_of view_of
 listed_shown = refl
 
 -- which are counts
 listed_counts : sort_seen listed ≡ 0
-unfolding written decimal_of number_in mantissa_of exponent_of two_at four_at place_of field_at slot_of other_codes sort_of total_of sum_of run_counts run_lengths
-    first_length spot_of spot_from codes_of first_codes all_zero zero_plan? plan_good image_good volume_good leader_good slots_good first_fault text_at body_of body_tests
+unfolding written decimal_of number_in mantissa_of exponent_of two_at four_at place_of field_at slot_of other_codes sort_of total_of sum_of
+    run_counts run_lengths
+    first_length spot_of spot_from codes_of first_codes all_zero zero_plan? plan_good image_good volume_good leader_good slots_good first_fault
+    text_at body_of body_tests
     image_record image_tests numbers_tests agree_tests line_tests volume_record leader_record trailer_tests plan_of good_state walk_of judge_of header_of
     header_tests codes_are ended_of short_of next_of bad_stop sort_seen
 listed_counts = refl
 
 listed_row_lem : row_of listed 1 (7 ∷ 7 ∷ 7 ∷ []) ≡ 0 ∷ 0 ∷ 0 ∷ []
-unfolding written decimal_of number_in mantissa_of exponent_of two_at four_at place_of field_at slot_of other_codes sort_of total_of sum_of run_counts run_lengths
-    first_length spot_of spot_from codes_of first_codes all_zero zero_plan? plan_good image_good volume_good leader_good slots_good first_fault text_at body_of body_tests
+unfolding written decimal_of number_in mantissa_of exponent_of two_at four_at place_of field_at slot_of other_codes sort_of total_of sum_of
+    run_counts run_lengths
+    first_length spot_of spot_from codes_of first_codes all_zero zero_plan? plan_good image_good volume_good leader_good slots_good first_fault
+    text_at body_of body_tests
     image_record image_tests numbers_tests agree_tests line_tests volume_record leader_record trailer_tests plan_of good_state walk_of judge_of header_of
     header_tests codes_are ended_of short_of next_of bad_stop shown_of found_in line_at line_of view_of sort_seen samples_from row_of
 listed_row_lem = refl

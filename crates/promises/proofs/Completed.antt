@@ -194,5 +194,6 @@ completes st g c l = go (enough_some st g c l)
     )
 
 -- so some file of each kind is complete
-pub some_file : (kind : ℕ) → 1 ≤ kind → kind ≤ 4 → (ys : List ℕ) × Bytes ys × ((n : ℕ) → records_most + 1 < n → (walk_of n (fresh kind) ys true).stop ≡ Complete)
+pub some_file : (kind : ℕ) → 1 ≤ kind → kind ≤ 4 → (ys : List ℕ) × Bytes ys ×
+    ((n : ℕ) → records_most + 1 < n → (walk_of n (fresh kind) ys true).stop ≡ Complete)
 some_file kind a b = completes (fresh kind) (fresh_good kind a b) refl refl

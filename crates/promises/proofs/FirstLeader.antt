@@ -47,7 +47,8 @@ module _ (r : List ℕ) (size : length r ≡ 720) where
   Ruled j s = Pair r (row j).byte (row j).form s.least s.most s.shortest s.longest
 
   -- any pair whose fields lie in the record: the one is the other
-  is : (j : ℕ) → place_of (row j).byte + 6 ≤ length r → place_of ((row j).byte + 6) + width_of (row j).form ≤ length r → shape_of (row j).form ≡ Whole → (c l : ℕ)
+  is : (j : ℕ) → place_of (row j).byte + 6 ≤ length r → place_of ((row j).byte + 6) + width_of (row j).form ≤ length r →
+      shape_of (row j).form ≡ Whole → (c l : ℕ)
       → Passes j c l ↔ Ruled j (slot_of (row j).row) c l
   unfolding pair_tests
   is j = pair_is r (row j) (slot_of (row j).row)

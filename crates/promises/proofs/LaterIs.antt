@@ -110,7 +110,8 @@ Rule d k r = Record (suc (suc k)) d.Codes d.long r × d.Holds (suc k) r
 
 module _ (kind : Kind) (p : Plan) (good : plan_good (kind_number kind) p ≡ true) (cl : length p.counts ≡ rows) (ll : length p.lengths ≡ rows) (k : ℕ)
     (going : suc k < total_of (kind_number kind) p) where
-  pub found : At (promised_by kind p) text_record 1 k (run_counts (kind_number kind) p) (run_lengths (kind_number kind) p) (spot_of (kind_number kind) p (suc k))
+  pub found : At (promised_by kind p) text_record 1 k (run_counts (kind_number kind) p) (run_lengths (kind_number kind) p)
+      (spot_of (kind_number kind) p (suc k))
   unfolding spot_of total_of
   found =
       spot_at (promised_by kind p) text_record (run_counts (kind_number kind) p) (run_lengths (kind_number kind) p) 1 k (first_length (kind_number kind))

@@ -214,7 +214,8 @@ module _ (bs : List ℕ) (k : ℕ) (p : Plan) (paired : p.d ≡ bytes_of p * p.w
       data_fits (bytes_of p) p (left_fill (line_record p k bs)) (data_count (line_record p k bs)) (four_at (line_record p k bs) (place_of 29)) paired room
       t.holds.fills
 
-  pub whole_pixels : shown_bytes (bytes_of p) (Shown (data_start p k (line_record p k bs)) (data_count (line_record p k bs)) (left_fill (line_record p k bs))) bs
+  pub whole_pixels : shown_bytes (bytes_of p)
+      (Shown (data_start p k (line_record p k bs)) (data_count (line_record p k bs)) (left_fill (line_record p k bs))) bs
       ≡ data_pixels p (line_record p k bs)
   whole_pixels =
       let r = line_record p k bs in

@@ -126,7 +126,8 @@ pixels_stay bs ys k settled =
     ∙ shown_stays bs ys k (view_of bs k) refl
 
 -- the copy, 23 and 15 included, and the row behind it
-row_held : (bs ys : List ℕ) (k sort : ℕ) (row : List ℕ) (v : View) → sort_seen bs ≡ sort → view_of bs k ≡ v → row_by v sort (bs ++ ys) row ≡ row_by v sort bs row
+row_held : (bs ys : List ℕ) (k sort : ℕ) (row : List ℕ) (v : View) → sort_seen bs ≡ sort → view_of bs k ≡ v →
+    row_by v sort (bs ++ ys) row ≡ row_by v sort bs row
 unfolding sort_of
 row_held bs ys k zero row (Shown start count left) s e =
     ap (λ (px : List ℕ). pick (ltb (length row) count) row (samples count px ++ drop count row))

@@ -136,7 +136,8 @@ alone_pass c n st b w u g t ih r d ys e =
     ∙ ap (λ (m : ℕ). more m (walk_of d w.state ys e)) (let z : 1 + w.count ≡ w.count + 1 = omega arith in z)
 
 alone : (c : Bool) (b : ℕ) (st : State) (bs : List ℕ) → Rows st → (d : ℕ) (ys : List ℕ) (e : Bool)
-    → walk_of ((walk_of b st bs c).count + d) st (take (used_of b st bs c) bs ++ ys) e ≡ more (walk_of b st bs c).count (walk_of d (walk_of b st bs c).state ys e)
+    → walk_of ((walk_of b st bs c).count + d) st (take (used_of b st bs c) bs ++ ys) e ≡ more (walk_of b st bs c).count
+    (walk_of d (walk_of b st bs c).state ys e)
 unfolding Alone
 alone c b st bs =
     by_turns c (Alone c) (λ n s y g. alone_none c n s y bad_stop) (λ s y g. alone_none c 0 s y Pause) (λ n s y x g t. alone_none c (suc n) s y x)

@@ -68,7 +68,8 @@ unfolding compare_from
 compare_from_lem p bs [] h = refl
 compare_from_lem p bs (c ∷ cs) h =
     let e : p + 0 ≡ p = omega arith in
-    ap (λ (b : Bool). pick b (compare_from (p + 1) bs cs) (differs (place_of (count_byte p)))) (eq-eqb c (count_of bs p) (h 0 (omega arith) ∙ ap (count_of bs) e))
+    ap (λ (b : Bool). pick b (compare_from (p + 1) bs cs) (differs (place_of (count_byte p))))
+    (eq-eqb c (count_of bs p) (h 0 (omega arith) ∙ ap (count_of bs) e))
     ∙ compare_from_lem (p + 1) bs cs (λ i l. h (suc i) (omega arith) ∙ ap (count_of bs) (let q : p + suc i ≡ p + 1 + i = omega arith in q))
 
 -- a list of the directory's own length, and its counts

@@ -98,7 +98,8 @@ from_next i (c ∷ cs) (l ∷ ls) k at =
 module _ (kind : ℕ) (p q : Plan) where
   pub second_start : (due_of kind q 1).start ≡ (due_of kind p 0).start + (due_of kind p 0).length
   unfolding spot_of
-  second_start = from_first 1 (run_counts kind q) (run_lengths kind q) (first_length kind) ∙ (let e : first_length kind ≡ 0 + first_length kind = omega arith in e)
+  second_start = from_first 1 (run_counts kind q) (run_lengths kind q) (first_length kind)
+      ∙ (let e : first_length kind ≡ 0 + first_length kind = omega arith in e)
 
 pub end_to_end : (kind : ℕ) (p : Plan) (k : ℕ) → (due_of kind p (suc k)).start ≡ (due_of kind p k).start + (due_of kind p k).length
 unfolding spot_of

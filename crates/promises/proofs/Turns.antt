@@ -78,7 +78,8 @@ module _ (Q : Stop → Type 0) (st : State) (b : List ℕ) (c : Bool) (x : Stop)
   halt_of qc qw q9 q2 qh qb e =
       let o : ℕ = st.passed + 1 in
       let a : ℕ = (next_due st).start in
-      halts Q (st.passed + 1) (next_due st).start (ended_of o a (length b) c) (short_of o a c (12 - length b)) (short_of o a c ((next_due st).length - length b))
+      halts Q (st.passed + 1) (next_due st).start (ended_of o a (length b) c) (short_of o a c (12 - length b))
+      (short_of o a c ((next_due st).length - length b))
       (ended_is Q o a (length b) c qc q9) (short_is Q o a c (12 - length b) (qw (12 - length b)) q2)
       (short_is Q o a c ((next_due st).length - length b) (qw ((next_due st).length - length b)) q2) x
       (leb (total_of st.kind st.plan) st.passed) (ltb (length b) 12) (ltb (length b) (next_due st).length)

@@ -52,7 +52,8 @@ module _ (p : Plan) where
   volume_body = refl
 
   leader_body : body_of 2 0 p 0 (first_of 2 leader_parts) ≡ Fine
-  unfolding first_of leader_parts blanks body_of body_tests leader_record leader_tests pair_tests count_at slot_of first_fault text_at field_at place_of mantissa_of
+  unfolding first_of leader_parts blanks body_of body_tests leader_record leader_tests pair_tests count_at slot_of first_fault text_at field_at
+      place_of mantissa_of
       number_in decimal_of written made four
   leader_body = refl
 

@@ -310,7 +310,8 @@ line_finds w k r =
     exact (eqb (four_at r (place_of 17)) 1) _ (rules.rule 10 17 (four_at r (place_of 17) ≡ 1)) _ _ refl (eqb-true _ _) (eq-eqb _ _)
     (λ e.
     exact (eqb (four_at r (place_of 21) + four_at r (place_of 25) + four_at r (place_of 29)) w) _
-    (rules.rule 10 21 (four_at r (place_of 21) + four_at r (place_of 25) + four_at r (place_of 29) ≡ w)) _ _ refl (eqb-true _ _) (eq-eqb _ _) (λ e. finds_none)))
+    (rules.rule 10 21 (four_at r (place_of 21) + four_at r (place_of 25) + four_at r (place_of 29) ≡ w)) _ _ refl (eqb-true _ _) (eq-eqb _ _)
+    (λ e. finds_none)))
 
 -- ---- each kind and run
 

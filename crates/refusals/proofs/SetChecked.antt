@@ -78,7 +78,8 @@ compare_to p bs (c ∷ cs) x e = go (compare_to (p + 1) bs cs x) (eqb c (count_o
           is = sym (refused_same f) ∙ ap (λ (n : ℕ). refusal_at 12 (place_of (count_byte n))) i;
         }
 
-compare_from_lem : (i p : ℕ) (bs cs : List ℕ) → i < length cs → ((j : ℕ) → j < i → get_or cs j 0 ≡ count_of bs (p + j)) → (get_or cs i 0 ≡ count_of bs (p + i) → ⊥)
+compare_from_lem : (i p : ℕ) (bs cs : List ℕ) → i < length cs → ((j : ℕ) → j < i → get_or cs j 0 ≡ count_of bs (p + j)) →
+    (get_or cs i 0 ≡ count_of bs (p + i) → ⊥)
     → compare_from p bs cs ≡ differs (place_of (count_byte (p + i)))
 unfolding compare_from
 compare_from_lem i p bs [] h s o = absurd (omega arith)
@@ -89,7 +90,8 @@ compare_from_lem zero p bs (c ∷ cs) h s o =
 compare_from_lem (suc i) p bs (c ∷ cs) h s o =
     let z : p + 0 ≡ p = omega arith in
     let y : p + 1 + i ≡ p + suc i = omega arith in
-    ap (λ (b : Bool). pick b (compare_from (p + 1) bs cs) (differs (place_of (count_byte p)))) (eq-eqb c (count_of bs p) (s 0 (omega arith) ∙ ap (count_of bs) z))
+    ap (λ (b : Bool). pick b (compare_from (p + 1) bs cs) (differs (place_of (count_byte p))))
+    (eq-eqb c (count_of bs p) (s 0 (omega arith) ∙ ap (count_of bs) z))
     ∙ compare_from_lem i (p + 1) bs cs (omega arith)
     (λ j l. s (suc j) (omega arith) ∙ ap (count_of bs) (let w : p + suc j ≡ p + 1 + j = omega arith in w)) (λ e. o (e ∙ ap (count_of bs) y))
     ∙ ap (λ (n : ℕ). differs (place_of (count_byte n))) y

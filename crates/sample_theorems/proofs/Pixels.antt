@@ -47,7 +47,8 @@ module _ (bs : List ℕ) (k : ℕ) (p : Plan) (t : Stands bs k p) where
       ∙ whole_pixels bs k p t.first.paired (stands_room bs k p t) t.line
 
   -- four bytes of complex pixels, two of counts
-  pub four_there_lem : p.sort ≡ 1 → (i : ℕ) → i + 4 ≤ 8 * data_count (line_record p k bs) → four_at bs (start + i) ≡ pattern (data_pixels p (line_record p k bs)) i
+  pub four_there_lem : p.sort ≡ 1 → (i : ℕ) → i + 4 ≤ 8 * data_count (line_record p k bs) →
+      four_at bs (start + i) ≡ pattern (data_pixels p (line_record p k bs)) i
   four_there_lem s i h =
       part_four bs start (8 * data_count (line_record p k bs)) i h
       ∙ ap (λ (px : List ℕ). pattern px i) (pixels_are 8 (ap (λ (j : ℕ). (sort_of j).group) s))

@@ -107,5 +107,6 @@ module _ (bs : List ℕ) (bytes : (i : ℕ) → byte_at bs i < 256) where
   sample_kept (View.Refused r) sort i h = refl
 
   -- so both readers say the same of it
-  pub same_said : (v : View) (sort i : ℕ) → no_nan (patterned_by v sort bs i) ≡ true → sampled_as (sampled_by v sort bs i) ≡ patterned_as (patterned_by v sort bs i)
+  pub same_said : (v : View) (sort i : ℕ) → no_nan (patterned_by v sort bs i) ≡ true →
+      sampled_as (sampled_by v sort bs i) ≡ patterned_as (patterned_by v sort bs i)
   same_said v sort i h = ap patterned_as (sample_kept v sort i h)

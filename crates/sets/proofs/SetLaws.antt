@@ -34,7 +34,8 @@ use Rattle.sets.specs.declared.Agreement.TheVariants.{Refused}
 
 module _ (bs cs : List ℕ) (i p : ℕ) where
   compare_at : i < length cs
-      → compare_from p bs (drop i cs) ≡ pick (eqb (get_or cs i 0) (count_of bs p)) (compare_from (p + 1) bs (drop (i + 1) cs)) (differs (place_of (count_byte p)))
+      → compare_from p bs (drop i cs) ≡ pick (eqb (get_or cs i 0) (count_of bs p)) (compare_from (p + 1) bs (drop (i + 1) cs))
+      (differs (place_of (count_byte p)))
   unfolding compare_from
   compare_at h = rw (add-one i, drop-cons cs i 0 h)
 

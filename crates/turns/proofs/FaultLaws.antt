@@ -103,7 +103,8 @@ module _ (need : ℕ) (r : List ℕ) where
     bad_near p k h = omega (arith, bad_within r p k)
 
     -- a field's own refusal: 6 at its first bad byte, or at that place where it is blank, or 2 where the record ends before it does
-    field_can : (p last : ℕ) (k : Form) → p + width_of k ≤ need → last ≤ 10000 → Can need r (unread_number (field_at r p k)) (unread_place last (field_at r p k))
+    field_can : (p last : ℕ) (k : Form) → p + width_of k ≤ need → last ≤ 10000 →
+        Can need r (unread_number (field_at r p k)) (unread_place last (field_at r p k))
     unfolding field_at
     field_can p last k h l = go (ltb (length r) (p + width_of k)) refl (written k (field_bytes r p k))
       where

@@ -31,7 +31,8 @@ module _ (st : State) (b : List ℕ) (c : Bool) where
   unfolding walk_of
   walk_halt f x h t = simp (h, t)
 
-  pub walk_pass : (f : ℕ) → good_state st ≡ true → turn_of st b c ≡ Pass → walk_of (suc f) st b c ≡ more 1 (walk_of f (next_of st b) (drop (next_due st).length b) c)
+  pub walk_pass : (f : ℕ) → good_state st ≡ true → turn_of st b c ≡ Pass →
+      walk_of (suc f) st b c ≡ more 1 (walk_of f (next_of st b) (drop (next_due st).length b) c)
   unfolding walk_of
   walk_pass f h t = simp (h, t)
 

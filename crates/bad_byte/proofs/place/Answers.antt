@@ -29,7 +29,10 @@ returns-then-wrong c =
     next.ensures ∙ ap (λ g. next_of g loop.stage column-at.result (get_or f loop.i 0)) pointed.ensures
     ∙ ap (λ k. next_of (pointed? args.shape) loop.stage k (get_or f loop.i 0)) column-at.ensures in
     let w : wrong? (laws.next_at args.shape loop.stage f loop.i) ≡ true = sym (wrong.ensures ∙ ap wrong? t) ∙ if1.true in
-    record { value = omega (arith, laws.stopped args.shape loop.stage f loop.i loop-test.true w, loop.invariant.1); upper_bound = omega (arith, laws.stopped args.shape loop.stage f loop.i loop-test.true w, loop.invariant.1) }
+    record {
+      value = omega (arith, laws.stopped args.shape loop.stage f loop.i loop-test.true w, loop.invariant.1);
+      upper_bound = omega (arith, laws.stopped args.shape loop.stage f loop.i loop-test.true w, loop.invariant.1);
+    }
 
 pub loop-i-preserved : goal.loop-i-preserved
 loop-i-preserved c =
@@ -55,4 +58,7 @@ pub returns : goal.returns
 returns c =
     let a = c.args in
     let loop = c.loop-i in
-    record { value = omega (arith, laws.ended a.shape loop.stage a.f.now loop.i (omega arith), loop.invariant.1); upper_bound = omega (arith, laws.ended a.shape loop.stage a.f.now loop.i (omega arith), loop.invariant.1) }
+    record {
+      value = omega (arith, laws.ended a.shape loop.stage a.f.now loop.i (omega arith), loop.invariant.1);
+      upper_bound = omega (arith, laws.ended a.shape loop.stage a.f.now loop.i (omega arith), loop.invariant.1);
+    }

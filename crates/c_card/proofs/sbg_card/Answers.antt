@@ -18,4 +18,8 @@ returns c =
     let card-reply = c.card_reply in
     let say = c.say in
     let t = le-leb 5 (length args.answer.now) if1.false in
-    record { value = laws.says_yes _ t; answer_after = laws.answer_alone checked_as _ _ _ args.answer.now _ t check.ensures.value card-reply.ensures say.ensures }
+    record {
+      value = laws.says_yes _ t;
+      answer_after =
+          laws.answer_alone checked_as _ _ _ args.answer.now _ t check.ensures.value card-reply.ensures say.ensures;
+    }

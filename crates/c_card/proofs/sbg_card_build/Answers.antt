@@ -19,4 +19,9 @@ returns c =
     let built-reply = c.built_reply in
     let say = c.say in
     let t = le-leb 5 (length args.answer.now) if1.false in
-    record { value = laws.says_yes _ t; card_after = laws.turns _ _ args.card.now _ t build.ensures.card_after; answer_after = laws.answer_alone built_as _ _ _ args.answer.now _ t build.ensures.value built-reply.ensures say.ensures }
+    record {
+      value = laws.says_yes _ t;
+      card_after =
+          laws.turns _ _ args.card.now _ t build.ensures.card_after;
+      answer_after = laws.answer_alone built_as _ _ _ args.answer.now _ t build.ensures.value built-reply.ensures say.ensures;
+    }

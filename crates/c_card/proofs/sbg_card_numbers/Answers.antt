@@ -19,4 +19,9 @@ returns c =
     let card-reply = c.card_reply in
     let say = c.say in
     let t = le-leb 5 (length args.answer.now) if1.false in
-    record { value = laws.says_yes _ t; numbers_after = laws.turns _ _ args.numbers.now _ t numbers.ensures.out_after; answer_after = laws.answer_alone checked_as _ _ _ args.answer.now _ t numbers.ensures.value card-reply.ensures say.ensures }
+    record {
+      value = laws.says_yes _ t;
+      numbers_after =
+          laws.turns _ _ args.numbers.now _ t numbers.ensures.out_after;
+      answer_after = laws.answer_alone checked_as _ _ _ args.answer.now _ t numbers.ensures.value card-reply.ensures say.ensures;
+    }

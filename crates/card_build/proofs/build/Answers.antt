@@ -7,7 +7,10 @@ pub returns-in-Refused : goal.returns-in-Refused
 returns-in-Refused c =
     let args = c.args in
     let closed = c.closed-scene in
-    record { value = answer.image_answer args.image.now args.leader.now args.card.now _ closed.result closed.ensures _ c.in-Refused.is; card_after = answer.image_card args.image.now args.leader.now args.card.now _ closed.result closed.ensures _ c.in-Refused.is }
+    record {
+      value = answer.image_answer args.image.now args.leader.now args.card.now _ closed.result closed.ensures _ c.in-Refused.is;
+      card_after = answer.image_card args.image.now args.leader.now args.card.now _ closed.result closed.ensures _ c.in-Refused.is;
+    }
 
 pub returns-in-Refused-second : goal.returns-in-Refused-second
 returns-in-Refused-second c =

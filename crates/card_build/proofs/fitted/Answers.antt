@@ -13,7 +13,10 @@ pub returns-then-card-long : goal.returns-then-card-long
 returns-then-card-long c =
     let args = c.args in
     let e = ap (λ (r : ℕ). 17 + 13 * args.p.n + 10 * r) c.total-records.ensures.0 in
-    record { value = ap Refused c.bare.ensures ∙ answer.short_answer args.p args.q args.image.now args.card.now _ e c.if-card-long.true; card_after = answer.short_card args.p args.q args.image.now args.card.now _ e c.if-card-long.true }
+    record {
+      value = ap Refused c.bare.ensures ∙ answer.short_answer args.p args.q args.image.now args.card.now _ e c.if-card-long.true;
+      card_after = answer.short_card args.p args.q args.image.now args.card.now _ e c.if-card-long.true;
+    }
 
 pub returns : goal.returns
 returns c =

@@ -78,4 +78,7 @@ pub returns : goal.returns
 returns c =
     let args = c.args in
     let loop = c.loop-at in
-    record { value = laws.leaders_end loop.invariant.3.0 args.n loop.k loop.sum loop.at args.card.now c.loop-at-test.false ∙ sym loop.invariant.3.2; few = laws.card_few args.n _ loop.invariant.1 }
+    record {
+      value = laws.leaders_end loop.invariant.3.0 args.n loop.k loop.sum loop.at args.card.now c.loop-at-test.false ∙ sym loop.invariant.3.2;
+      few = laws.card_few args.n _ loop.invariant.1;
+    }

@@ -32,7 +32,10 @@ returns-then-out-n c =
     let args = c.args in
     let check = c.check-read in
     let if1 = c.if-out-n in
-    record { value = ap Refused c.bare.ensures ∙ laws.short_answer args.card.now args.out.now _ check.ensures.value _ _ c.in-Card.is if1.true; out_after = laws.short_list args.card.now args.out.now _ check.ensures.value _ _ c.in-Card.is if1.true }
+    record {
+      value = ap Refused c.bare.ensures ∙ laws.short_answer args.card.now args.out.now _ check.ensures.value _ _ c.in-Card.is if1.true;
+      out_after = laws.short_list args.card.now args.out.now _ check.ensures.value _ _ c.in-Card.is if1.true;
+    }
 
 pub pairs-requires-2 : goal.pairs-requires-2
 pairs-requires-2 c =

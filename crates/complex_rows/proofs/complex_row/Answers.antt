@@ -10,4 +10,7 @@ unfolding parts_copied parts_row
 returns c =
     let a = c.args in
     let h = c.complex_row_in.ensures in
-    record { value = h.value ∙ ap (λ (x : Sorted). parts_copied_by x.view x.sort (length a.row.now)) c.sorted_view-x.ensures; row_after = h.row_after ∙ ap (λ (x : Sorted). parts_row_by x.view x.sort a.bytes.now a.row.now) c.sorted_view-x.ensures }
+    record {
+      value = h.value ∙ ap (λ (x : Sorted). parts_copied_by x.view x.sort (length a.row.now)) c.sorted_view-x.ensures;
+      row_after = h.row_after ∙ ap (λ (x : Sorted). parts_row_by x.view x.sort a.bytes.now a.row.now) c.sorted_view-x.ensures;
+    }

@@ -17,7 +17,10 @@ returns-then-f-at-ne69 c =
 pub run-requires : goal.run-requires
 run-requires c =
     let args = c.args in
-    record { at_le_end = omega (arith, c.requires, laws.none_yet (args.at + 2 + 18 - (args.at + 4))); end_bound = omega (arith, c.requires, laws.none_yet (args.at + 2 + 18 - (args.at + 4))) }
+    record {
+      at_le_end = omega (arith, c.requires, laws.none_yet (args.at + 2 + 18 - (args.at + 4)));
+      end_bound = omega (arith, c.requires, laws.none_yet (args.at + 2 + 18 - (args.at + 4)));
+    }
 
 pub returns-then-c-eq45 : goal.returns-then-c-eq45
 returns-then-c-eq45 c =
@@ -31,7 +34,10 @@ returns-then-c-eq45 c =
 pub run-requires-then-c-eq43 : goal.run-requires-then-c-eq43
 run-requires-then-c-eq43 c =
     let args = c.args in
-    record { at_le_end = omega (arith, c.requires, laws.none_yet (args.at + 2 + 18 - (args.at + 4))); end_bound = omega (arith, c.requires, laws.none_yet (args.at + 2 + 18 - (args.at + 4))) }
+    record {
+      at_le_end = omega (arith, c.requires, laws.none_yet (args.at + 2 + 18 - (args.at + 4)));
+      end_bound = omega (arith, c.requires, laws.none_yet (args.at + 2 + 18 - (args.at + 4)));
+    }
 
 pub returns-then-c-eq43 : goal.returns-then-c-eq43
 returns-then-c-eq43 c =

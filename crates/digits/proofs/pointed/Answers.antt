@@ -15,7 +15,10 @@ pub run-requires : goal.run-requires
 run-requires c =
     let args = c.args in
     let first = c.skip in
-    record { at_le_end = omega (arith, first.ensures.from, first.ensures.upto, laws.none_yet (first.result + 18 - args.point)); end_bound = omega (arith, first.ensures.from, first.ensures.upto, laws.none_yet (first.result + 18 - args.point)) }
+    record {
+      at_le_end = omega (arith, first.ensures.from, first.ensures.upto, laws.none_yet (first.result + 18 - args.point));
+      end_bound = omega (arith, first.ensures.from, first.ensures.upto, laws.none_yet (first.result + 18 - args.point));
+    }
 
 pub returns-then-f-point-ne46 : goal.returns-then-f-point-ne46
 returns-then-f-point-ne46 c =

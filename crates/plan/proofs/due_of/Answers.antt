@@ -16,4 +16,7 @@ returns c =
     let a = c.args in
     let e : length a.p.counts ≡ rows = search rules in
     let s = c.spot_of-s.ensures in
-    record { value = rw (c.codes_of-codes.ensures, s.value); placed = record { ordinal = omega (arith, total_small a.kind a.p e c.requires.small); length = s.spotted.length; start = s.spotted.start } }
+    record {
+      value = rw (c.codes_of-codes.ensures, s.value);
+      placed = record { ordinal = omega (arith, total_small a.kind a.p e c.requires.small); length = s.spotted.length; start = s.spotted.start };
+    }

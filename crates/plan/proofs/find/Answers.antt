@@ -49,4 +49,7 @@ loop-i-preserved c =
 pub returns : goal.returns
 returns c =
     let l = c.loop-i in
-    record { value = sym (l.invariant.5 ∙ laws.spot_end l.i l.left l.start c.args.counts c.args.lengths (omega arith)); spotted = record { run = omega arith; length = omega arith; start = omega arith } }
+    record {
+      value = sym (l.invariant.5 ∙ laws.spot_end l.i l.left l.start c.args.counts c.args.lengths (omega arith));
+      spotted = record { run = omega arith; length = omega arith; start = omega arith };
+    }

@@ -10,7 +10,11 @@ use Rattle.plan.proofs.spot_of.Goals as goal
 pub returns-then-k-eq0 : goal.returns-then-k-eq0
 returns-then-k-eq0 c =
     let b = laws.first_bound c.args.kind in
-    record { value = ap (λ (n : ℕ). record { run = 0; length = n; start = 0 }) c.first_length-first.ensures ∙ sym (laws.spot_first _ _ _ c.if-k-eq0.true); spotted = record { run = omega arith; length = omega (arith, c.first_length-first.ensures); start = omega arith } }
+    record {
+      value = ap (λ (n : ℕ). record { run = 0; length = n; start = 0 }) c.first_length-first.ensures
+          ∙ sym (laws.spot_first _ _ _ c.if-k-eq0.true);
+      spotted = record { run = omega arith; length = omega (arith, c.first_length-first.ensures); start = omega arith };
+    }
 
 pub find-requires : goal.find-requires
 find-requires c =

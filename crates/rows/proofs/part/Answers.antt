@@ -13,4 +13,5 @@ returns c =
     let args = c.args in
     let text = c.text-from in
     let w = laws.part_is args.line.now text.new.out _ args.at text.result _ _ args.word.now
-    c.requires (text.ensures.out_after, text.ensures.value) (c.numeral.ensures.out_after, c.numeral.ensures.value) in record { line_after = w.0; upper_bound = w.1.0; lower_bound = w.1.1.0; line_unchanged = w.1.1.1 }
+    c.requires (text.ensures.out_after, text.ensures.value) (c.numeral.ensures.out_after, c.numeral.ensures.value) in
+    record { line_after = w.0; upper_bound = w.1.0; lower_bound = w.1.1.0; line_unchanged = w.1.1.1 }

@@ -22,4 +22,7 @@ returns c =
     let args = c.args in
     let k : decimal.result ≤ 20 = laws.few_digits _ _ (search rules) decimal.ensures.len in
     let e = decimal.ensures.digits ∙ laws.numeral_is _ _ k decimal.ensures.len in
-    record { out_after = c.text.ensures.out_after ∙ ap (written args.out.now args.at) e; value = c.text.ensures.value ∙ ap (λ (t : List ℕ). args.at + length t) e }
+    record {
+      out_after = c.text.ensures.out_after ∙ ap (written args.out.now args.at) e;
+      value = c.text.ensures.value ∙ ap (λ (t : List ℕ). args.at + length t) e;
+    }

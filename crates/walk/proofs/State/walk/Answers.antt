@@ -43,7 +43,10 @@ due_of-due-requires c =
 
 pub judge-judged-requires : goal.judge-judged-requires
 judge-judged-requires c =
-    record { small = (good-laws.ready c.loop-n.st c.loop-n.invariant.2).small; k_bound = ((good-laws.ready c.loop-n.st c.loop-n.invariant.2).within, c.due_of-due.ensures.placed) }
+    record {
+      small = (good-laws.ready c.loop-n.st c.loop-n.invariant.2).small;
+      k_bound = ((good-laws.ready c.loop-n.st c.loop-n.invariant.2).within, c.due_of-due.ensures.placed);
+    }
 
 pub returns-in-Halt : goal.returns-in-Halt
 returns-in-Halt c = let l = c.loop-n in
