@@ -189,7 +189,7 @@ def contracts() -> list[str]:
             count += 1
             if re.search(rf'^- `{crate}::{name}` is determined by `[\w/]+\.antt:[\w-]+`', text, re.M):
                 listed += 1
-            elif not determined(path, clauses) and f'`{crate}::{name}` reads and writes descriptors' not in text:
+            elif not determined(path, clauses) and f'`{crate}::{name}` reads and writes streams' not in text:
                 faults.append(f'{crate}::{name}: its contract is no equation for all that it answers or touches, and docs/PROMISES.md names no theorem')
     print(f'{count} entry points and helpers without a `requires`, {listed} of them by a theorem')
     if not count:
