@@ -3,7 +3,7 @@
 
 promises  every name that docs/PROMISES.md cites is defined there as public: `crates/..:name`; must-fail edits that it cites are there, and all are cited
 list      its list of the must-fail edits is what scripts/edits makes of them
-names     every `crate::function` and every file that README.md, CONTRIBUTING.md and docs/ name is there (not LANDINGS.md, which tells of its time);
+names     every `crate::function` and every file that README.md, CONTRIBUTING.md and docs/ name is there (not LANDINGS.md and PORT.md, which tell of their time);
           no two files of tests/ have one name; nothing leans on a page outside the repository
 map       CONTRIBUTING.md's map of the crates is what scripts/map makes of crates.txt and the crates' own openings
 floors    a crate needs only what stands above it in crates.txt, and none but a crate of theorems needs a crate of theorems
@@ -58,7 +58,7 @@ def promises() -> list[str]:
 def names() -> list[str]:
     faults, count = [], 0
     pages = [HOME / 'README.md', HOME / 'CONTRIBUTING.md', *sorted((HOME / 'docs').glob('*.md'))]
-    for page in (page for page in pages if page.name != 'LANDINGS.md'):
+    for page in (page for page in pages if page.name not in ('LANDINGS.md', 'PORT.md')):
         text = page.read_text()
         cited = {(crate, name) for crate, name in re.findall(r'`([a-z]\w*)::(?:\w+::)*(\w+)', text) if crate not in crates.KIT}
         for crate, name in sorted(cited):
