@@ -6,7 +6,7 @@ from typing import Iterable, Iterator
 
 HOME = Path(__file__).resolve().parent.parent
 LIST = HOME / 'crates.txt'
-KIT = ('bytes', 'check', 'libc', 'io', 'os')  # the kit's libraries that a crate may need; `std` every crate has
+KIT = ('bytes', 'check', 'io')  # the kit's libraries that a crate may need; `std` every crate has, and `libc` and `os` no crate may
 
 
 def crate_of(said: str) -> str:

@@ -3,7 +3,7 @@
 
 promises  every name that docs/PROMISES.md cites is defined there as public: `crates/..:name`; must-fail edits that it cites are there, and all are cited
 list      its list of the must-fail edits is what scripts/edits makes of them
-names     every `crate::function` and every file that README.md, CONTRIBUTING.md and docs/ name is there (not LANDINGS.md, which tells of its time);
+names     every `crate::function` and every file that README.md, CONTRIBUTING.md and docs/ name is there (not LANDINGS.md and PORT.md, which tell of their time);
           no two files of tests/ have one name; nothing leans on a page outside the repository
 map       CONTRIBUTING.md's map of the crates is what scripts/map makes of crates.txt and the crates' own openings
 floors    a crate needs only what stands above it in crates.txt, and none but a crate of theorems needs a crate of theorems
@@ -58,7 +58,7 @@ def promises() -> list[str]:
 def names() -> list[str]:
     faults, count = [], 0
     pages = [HOME / 'README.md', HOME / 'CONTRIBUTING.md', *sorted((HOME / 'docs').glob('*.md'))]
-    for page in (page for page in pages if page.name != 'LANDINGS.md'):
+    for page in (page for page in pages if page.name not in ('LANDINGS.md', 'PORT.md')):
         text = page.read_text()
         cited = {(crate, name) for crate, name in re.findall(r'`([a-z]\w*)::(?:\w+::)*(\w+)', text) if crate not in crates.KIT}
         for crate, name in sorted(cited):
@@ -189,7 +189,7 @@ def contracts() -> list[str]:
             count += 1
             if re.search(rf'^- `{crate}::{name}` is determined by `[\w/]+\.antt:[\w-]+`', text, re.M):
                 listed += 1
-            elif not determined(path, clauses) and f'`{crate}::{name}` reads and writes descriptors' not in text:
+            elif not determined(path, clauses) and f'`{crate}::{name}` reads and writes streams' not in text:
                 faults.append(f'{crate}::{name}: its contract is no equation for all that it answers or touches, and docs/PROMISES.md names no theorem')
     print(f'{count} entry points and helpers without a `requires`, {listed} of them by a theorem')
     if not count:
@@ -222,8 +222,7 @@ def lengths() -> list[str]:
     texts = sources() + sorted((HOME / 'crates').glob('*/specs/**/*.antt')) + sorted((HOME / 'crates').glob('*/proofs/**/*.antt'))
     for path in texts:
         for i, line in enumerate(path.read_text().splitlines(), 1):
-            # a path into what is known at a place of the code cannot be broken
-            if len(line) > 160 and not re.fullmatch(r' *let \w+ = c( \.before)+ [^ ]* in', line):
+            if len(line) > 160:
                 faults.append(f'{path.relative_to(HOME)}:{i}: {len(line)} characters')
     print(f'{count} functions, {len(texts)} files')
     return faults
