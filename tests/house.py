@@ -173,7 +173,7 @@ def determined(path: Path, clauses: list[str]) -> bool:
         fields = re.findall(r'^ *(?:pub )?(\w+):', struct.group(1), re.M) if struct else []
         whole = bool(fields) and all(re.search(rf'\(result\.{f} ≡', ' '.join(ensured)) for f in fields)
     lent = re.findall(r'(\w+): &mut', signature)
-    return (not result or whole) and all(any(re.search(rf'\b{m}\.new ≡', c) for c in ensured) for m in lent)
+    return (not result or whole) and all(any(re.search(rf'(?:\{{ |\(){m}\.new ≡', c) for c in ensured) for m in lent)
 
 
 def contracts() -> list[str]:
