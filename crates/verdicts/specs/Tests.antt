@@ -1,12 +1,15 @@
 -- A body's rules as a list of tests in document 01's order: the first that fails is the refusal. Assumes nothing.
-use Rattle.std.specs.Prelude.{ℕ, ◌+◌, List, [], ◌∷◌, ◌++◌, Bool, true, false, eqb, ℤ, pos, negsuc}
+use Rattle.std.specs.Prelude.{ℕ, ◌+◌, List, [], ◌∷◌, ◌++◌, Bool, true, false, eqb, ℤ, pos, negsuc, Some, None, Result, Ok, Err}
 use Rattle.words.specs.Tests.{pick, both_of, within_of}
 use Rattle.words.specs.Words.{byte_at, place_of}
-use Rattle.fields.specs.Field.{refuse}
-use Rattle.fields.specs.declared.Field.{Field}
-use Rattle.fields.specs.declared.Field.TheVariants.{Value, Blank, Refused}
-use Rattle.verdicts.specs.declared.Verdict.{Verdict}
-use Rattle.verdicts.specs.declared.Verdict.TheVariants.{Fine, Fault}
+use Rattle.words.specs.Answer.{refusal_at}
+use Rattle.words.specs.declared.Refusal.{Refusal}
+use Rattle.decimal.specs.declared.Number.{Number}
+use Rattle.fields.specs.Field.{Field}
+
+-- what was found in a record: nothing wrong, or the first fault's number and its place in the record
+abbrev pub Verdict : Type 0
+Verdict = Result Unit Refusal
 
 -- a test: whether it holds, and the refusal's number and place in the record where it does not
 pub record Test : Type 0 where
@@ -19,8 +22,8 @@ test b n at = record { holds = b; number = n; place = at }
 
 -- the first test that fails
 unfoldable pub first_fault : List Test → Verdict
-first_fault [] = Fine
-first_fault (t ∷ ts) = pick t.holds (first_fault ts) (Fault t.number t.place)
+first_fault [] = Ok tt
+first_fault (t ∷ ts) = pick t.holds (first_fault ts) (Err (refusal_at t.number t.place))
 
 -- whether every test holds
 unfoldable pub all_hold : List Test → Bool
@@ -29,8 +32,13 @@ all_hold (t ∷ ts) = both_of t.holds (all_hold ts)
 
 -- what is judged next where nothing was found
 abbrev pub and_then : Verdict → Verdict → Verdict
-and_then Fine v = v
-and_then (Fault n at) v = Fault n at
+and_then (Ok _) v = v
+and_then (Err x) v = Err x
+
+-- what a record names where nothing was found in it; else the first fault
+abbrev pub named_by : {A : Type 0} → Verdict → A → Result A Refusal
+named_by (Ok _) a = Ok a
+named_by (Err x) a = Err x
 
 -- the tests of each of several things, one thing after the other
 abbrev pub each : {A : Type 0} → (A → List Test) → List A → List Test
@@ -50,27 +58,24 @@ text_test r byte t = test (text_at r (place_of byte) t) 8 (place_of byte)
 -- ---- number fields: form (6, at the first bad byte, or the last byte of a blank field where a number is needed), then range (7, at the first byte)
 
 abbrev pub value? : Field → Bool
-value? (Value v e) = true
-value? Blank = false
-value? (Refused x) = false
+value? (Ok (Some m)) = true
+value? (Ok None) = false
+value? (Err x) = false
 
 -- a value, or blank
 abbrev pub readable? : Field → Bool
-readable? (Value v e) = true
-readable? Blank = true
-readable? (Refused x) = false
+readable? (Ok m) = true
+readable? (Err x) = false
 
 -- the refusal of a field that is no value: its own, or 6 where it is blank and a number is needed
 abbrev pub unread_number : Field → ℕ
-unread_number (Value v e) = 6
-unread_number Blank = 6
-unread_number (Refused x) = x.number
+unread_number (Ok m) = 6
+unread_number (Err x) = x.number
 
 -- its place: its own, or that one where it is blank
 abbrev pub unread_place : ℕ → Field → ℕ
-unread_place at (Value v e) = at
-unread_place at Blank = at
-unread_place at (Refused x) = x.place
+unread_place at (Ok m) = at
+unread_place at (Err x) = x.place
 
 -- a signed number lies in a range
 abbrev pub whole_in : ℕ → ℤ → ℕ → Bool
@@ -78,15 +83,15 @@ whole_in lo (pos n) hi = within_of lo n hi
 whole_in lo (negsuc n) hi = false
 
 abbrev pub value_in : ℕ → Field → ℕ → Bool
-value_in lo (Value v e) hi = whole_in lo v hi
-value_in lo Blank hi = false
-value_in lo (Refused x) hi = false
+value_in lo (Ok (Some m)) hi = whole_in lo m.units hi
+value_in lo (Ok None) hi = false
+value_in lo (Err x) hi = false
 
 -- what a count says: a blank count is 0
 abbrev pub count_in : ℕ → Field → ℕ → Bool
-count_in lo (Value v e) hi = whole_in lo v hi
-count_in lo Blank hi = within_of lo 0 hi
-count_in lo (Refused x) hi = false
+count_in lo (Ok (Some m)) hi = whole_in lo m.units hi
+count_in lo (Ok None) hi = within_of lo 0 hi
+count_in lo (Err x) hi = false
 
 -- the number that a field says; 0 where it says none
 abbrev pub whole_of : ℤ → ℕ
@@ -94,9 +99,9 @@ whole_of (pos n) = n
 whole_of (negsuc n) = 0
 
 abbrev pub number_of : Field → ℕ
-number_of (Value v e) = whole_of v
-number_of Blank = 0
-number_of (Refused x) = 0
+number_of (Ok (Some m)) = whole_of m.units
+number_of (Ok None) = 0
+number_of (Err x) = 0
 
 -- a field, by its first byte and its last, that must be a number in a range
 abbrev pub number_tests : Field → ℕ → ℕ → ℕ → ℕ → List Test
@@ -110,26 +115,25 @@ count_tests f at lo hi = test (readable? f) (unread_number f) (unread_place at f
 abbrev pub readable_test : Field → ℕ → Test
 readable_test f at = test (readable? f) (unread_number f) (unread_place at f)
 
--- ---- the same, one field after the other: what the code hands on of a field, and its fault
+-- ---- the same, one field after the other: what the code hands on of a field
 
--- the verdict on a field: its refusal is the fault
-abbrev pub fault_of : Field → Verdict
-fault_of (Value v e) = Fine
-fault_of Blank = Fine
-fault_of (Refused x) = Fault x.number x.place
+-- the verdict on what was read: its refusal is the fault
+abbrev pub fault_of : {A : Type 0} → Result A Refusal → Verdict
+fault_of (Ok a) = Ok tt
+fault_of (Err x) = Err x
 
--- a value in a range, or 7
-abbrev pub in_range : ℤ → ℤ → ℕ → ℕ → ℕ → Field
-in_range v e at lo hi = pick (whole_in lo v hi) (Value v e) (refuse 7 at)
+-- a number in a range, or 7
+abbrev pub in_range : Number → ℕ → ℕ → ℕ → Result Number Refusal
+in_range m at lo hi = pick (whole_in lo m.units hi) (Ok m) (Err (refusal_at 7 at))
 
--- a field, by its first byte and its last, that must be a number in a range: its value; else its own refusal, 6 where it is blank, 7 outside the range
-abbrev pub needed_of : Field → ℕ → ℕ → ℕ → ℕ → Field
-needed_of (Value v e) at last lo hi = in_range v e at lo hi
-needed_of Blank at last lo hi = refuse 6 last
-needed_of (Refused x) at last lo hi = Refused x
+-- a field, by its first byte and its last, that must be a number in a range: the number; else its own refusal, 6 where it is blank, 7 outside the range
+abbrev pub needed_of : Field → ℕ → ℕ → ℕ → ℕ → Result Number Refusal
+needed_of (Ok (Some m)) at last lo hi = in_range m at lo hi
+needed_of (Ok None) at last lo hi = Err (refusal_at 6 last)
+needed_of (Err x) at last lo hi = Err x
 
 -- a count, whose blank field says 0
-abbrev pub counted_of : Field → ℕ → ℕ → ℕ → Field
-counted_of (Value v e) at lo hi = in_range v e at lo hi
-counted_of Blank at lo hi = in_range (pos 0) (pos 0) at lo hi
-counted_of (Refused x) at lo hi = Refused x
+abbrev pub counted_of : Field → ℕ → ℕ → ℕ → Result Number Refusal
+counted_of (Ok (Some m)) at lo hi = in_range m at lo hi
+counted_of (Ok None) at lo hi = in_range (record { units = pos 0; exponent = pos 0 }) at lo hi
+counted_of (Err x) at lo hi = Err x
