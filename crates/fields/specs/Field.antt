@@ -1,31 +1,41 @@
 -- What a number field at a place of some bytes says, and that answer in document 01's words. Assumes nothing.
-use Rattle.std.specs.Prelude.{ℕ, ◌+◌, List, Bool, false, eqb, ltb, length, take, drop}
+use Rattle.std.specs.Prelude.{ℕ, ◌+◌, List, Bool, false, eqb, ltb, length, take, drop, ℤ, Option, Some, None, Result, Ok, Err}
 use Rattle.words.specs.Tests.{pick}
-use Rattle.words.specs.Answer.{Answer, valued, bare, blank, refused_as, refusal_at}
+use Rattle.words.specs.Answer.{Answer, valued, bare, blank as blank_word, refused_as, refusal_at}
+use Rattle.words.specs.declared.Refusal.{Refusal}
 use Rattle.decimal.specs.Forms.{width_of, shape_of}
 use Rattle.decimal.specs.Scan.{written}
 use Rattle.decimal.specs.declared.Form.{Form}
-use Rattle.decimal.specs.declared.Written.{Written}
-use Rattle.decimal.specs.declared.Written.TheVariants.{Number, Blank as Blank', Bad}
+use Rattle.decimal.specs.declared.Number.{Number}
+use Rattle.decimal.specs.Written.{Written}
 use Rattle.bad_byte.specs.Columns.{bad_in}
-use Rattle.fields.specs.declared.Field.{Field}
-use Rattle.fields.specs.declared.Field.TheVariants.{Value, Blank, Refused}
+
+-- what a number field says: a number or, of blanks alone, none; or a refusal
+abbrev pub Field : Type 0
+Field = Result (Option Number) Refusal
 
 -- document 01's word and numbers for each case
 abbrev pub field_as : Field → Answer
-field_as (Value m e) = valued m e
-field_as Blank = bare blank
-field_as (Refused r) = refused_as r
+field_as (Ok (Some x)) = valued x.units x.exponent
+field_as (Ok None) = bare blank_word
+field_as (Err r) = refused_as r
+
+-- so many units in the last written place, with the exponent
+abbrev pub value : ℤ → ℤ → Field
+value m e = Ok (Some (record { units = m; exponent = e }))
+
+-- blanks alone
+abbrev pub blank : Field
+blank = Ok None
 
 -- a refusal of a field: ordinal 0
 abbrev pub refuse : ℕ → ℕ → Field
-refuse n at = Refused (refusal_at n at)
+refuse n at = Err (refusal_at n at)
 
 -- badly written is refusal 6, at that place
 abbrev pub from_written : ℕ → Written → Field
-from_written at (Number m e) = Value m e
-from_written at Blank' = Blank
-from_written at Bad = refuse 6 at
+from_written at (Ok x) = Ok x
+from_written at (Err x) = refuse 6 at
 
 -- the bytes of the field of a form at a place
 abbrev pub field_bytes : List ℕ → ℕ → Form → List ℕ
@@ -47,6 +57,5 @@ rough_at b at k = pick (ltb (length b) (at + width_of k)) (refuse 2 0) (from_wri
 
 -- a field that is badly written
 abbrev pub badly? : Field → Bool
-badly? (Value m e) = false
-badly? Blank = false
-badly? (Refused x) = eqb x.number 6
+badly? (Ok x) = false
+badly? (Err x) = eqb x.number 6
