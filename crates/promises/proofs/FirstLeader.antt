@@ -18,13 +18,13 @@ use Rattle.plan.specs.declared.Slot.{Slot}
 use Rattle.leader.specs.Leader.{pair, pairs, pair_row, pair_tests, count_at, length_at, leader_record, leader_tests, counts_of, lengths_of}
 use Rattle.bodies.specs.Bodies.{body_of, body_tests}
 use Rattle.leader.specs.declared.Pair as declared
-use Rattle.verdicts.specs.declared.Verdict.TheVariants.{Fine}
 use Rattle.verdicts.proofs.Holding.{Holds, fine_holds, holds_fine, each_holds, holds_each}
 use Rattle.leader.proofs.PairLaws.{length_none, count_in_lem}
 use Rattle.headers.specs.Header.{header_of}
 use Rattle.promises.specs.Newest.{Pair, NoSlot, Facility, LeaderDescriptor}
 use Rattle.promises.proofs.Each.{each_at, next}
 use Rattle.promises.proofs.Parts.{text_is, header_is, pair_is}
+use Rattle.std.specs.Prelude.{Ok}
 
 -- row i of the plan has the count and the length that the record says
 abbrev pub NamedAt : List ℕ → Plan → ℕ → Type 0
@@ -63,7 +63,7 @@ module _ (r : List ℕ) (size : length r ≡ 720) where
       (h, z, length_none r x z)
 
   module _ (q : Plan) where
-    slots_to : header_of 1 (first_codes 2) 720 r ≡ Fine → Holds (leader_tests r) → Named r q → LeaderDescriptor r q
+    slots_to : header_of 1 (first_codes 2) 720 r ≡ Ok tt → Holds (leader_tests r) → Named r q → LeaderDescriptor r q
     unfolding leader_tests first_codes other_codes slot_of place_of counts_of lengths_of pair_row
     slots_to e h m =
         let held = each_holds (pair_tests r) (pair 0 I4 0) pairs h.1 in
@@ -153,7 +153,7 @@ module _ (r : List ℕ) (size : length r ≡ 720) where
         )
 
 pub leader_is : (p q : Plan) (r : List ℕ) → length r ≡ 720
-    → ((header_of 1 (first_codes 2) 720 r ≡ Fine) × (body_of 2 0 p 0 r ≡ Fine) × Named r q) ↔ LeaderDescriptor r q
+    → ((header_of 1 (first_codes 2) 720 r ≡ Ok tt) × (body_of 2 0 p 0 r ≡ Ok tt) × Named r q) ↔ LeaderDescriptor r q
 unfolding body_of body_tests leader_record first_codes other_codes
 leader_is p q r size = (
   λ h. slots_to r size q h.0 (fine_holds (leader_tests r) h.1) h.2,

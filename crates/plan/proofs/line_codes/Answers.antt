@@ -5,4 +5,4 @@ use Rattle.plan.specs.declared.Sort.{Sort}
 use Rattle.plan.proofs.line_codes.Goals as goal
 
 pub returns : goal.returns
-returns c = c.four_codes.ensures ∙ ap (λ (s : Sort). codes 50 s.code 18 20) c.sort_at-row.ensures
+returns c = c.four_codes.ensures ∙ ap (λ (s : Sort). codes 50 s.code 18 20) c.sort_at.ensures

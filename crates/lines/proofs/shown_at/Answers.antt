@@ -10,7 +10,7 @@ use Rattle.plan.specs.declared.Sort.{Sort}
 use Rattle.plan.proofs.CodeLaws.{sort_modest}
 use Rattle.lines.specs.View.{left_of, data_of, pixels_from, shown_of}
 use Rattle.lines.specs.declared.View.TheVariants.{Shown}
-use Rattle.lines.proofs.shown.Goals as goal
+use Rattle.lines.proofs.shown_at.Goals as goal
 
 modest : (i : ℕ) (s : Sort) → s ≡ sort_of i → s.group ≤ 8
 modest i s e = omega (arith, (sort_modest i).0, ap (λ (x : Sort). x.group) e)
