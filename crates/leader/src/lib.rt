@@ -115,7 +115,7 @@ fn listed(r: &[u8], from: usize, to: usize) -> Verdict
 {
     for i in from..to {
         let row = fields::listed_row(i);
-        verdicts::field(r, row.first, row.form)?;
+        verdicts::fault(verdicts::field(r, row.first, row.form))?;
     }
     Ok(())
 }

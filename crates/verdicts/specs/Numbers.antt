@@ -5,7 +5,8 @@ use Rattle.words.specs.Words.{place_of}
 use Rattle.decimal.specs.Text.{bytes}
 use Rattle.decimal.specs.Forms.{width_of}
 use Rattle.decimal.specs.declared.Form.{Form}
-use Rattle.fields.specs.Field.{Field, field_at}
+use Rattle.fields.specs.Field.{field_at}
+use Rattle.fields.specs.declared.Field.{Field}
 use Rattle.verdicts.specs.Tests.{Test, each, text_test, number_tests, number_of}
 
 -- a field of a record, by its first byte and form

@@ -1,11 +1,12 @@
 -- A body's rules as a list of tests in document 01's order: the first that fails is the refusal. Assumes nothing.
-use Rattle.std.specs.Prelude.{ℕ, ◌+◌, List, [], ◌∷◌, ◌++◌, Bool, true, false, eqb, ℤ, pos, negsuc, Some, None, Result, Ok, Err}
+use Rattle.std.specs.Prelude.{ℕ, ◌+◌, List, [], ◌∷◌, ◌++◌, Bool, true, false, eqb, ℤ, pos, negsuc, Result, Ok, Err}
 use Rattle.words.specs.Tests.{pick, both_of, within_of}
 use Rattle.words.specs.Words.{byte_at, place_of}
 use Rattle.words.specs.Answer.{refusal_at}
 use Rattle.words.specs.declared.Refusal.{Refusal}
 use Rattle.decimal.specs.declared.Number.{Number}
-use Rattle.fields.specs.Field.{Field}
+use Rattle.fields.specs.declared.Field.{Field}
+use Rattle.fields.specs.declared.Field.TheVariants.{Value, Blank, Refused}
 
 -- what was found in a record: nothing wrong, or the first fault's number and its place in the record
 abbrev pub Verdict : Type 0
@@ -58,24 +59,27 @@ text_test r byte t = test (text_at r (place_of byte) t) 8 (place_of byte)
 -- ---- number fields: form (6, at the first bad byte, or the last byte of a blank field where a number is needed), then range (7, at the first byte)
 
 abbrev pub value? : Field → Bool
-value? (Ok (Some m)) = true
-value? (Ok None) = false
-value? (Err x) = false
+value? (Value v e) = true
+value? Blank = false
+value? (Refused x) = false
 
 -- a value, or blank
 abbrev pub readable? : Field → Bool
-readable? (Ok m) = true
-readable? (Err x) = false
+readable? (Value v e) = true
+readable? Blank = true
+readable? (Refused x) = false
 
 -- the refusal of a field that is no value: its own, or 6 where it is blank and a number is needed
 abbrev pub unread_number : Field → ℕ
-unread_number (Ok m) = 6
-unread_number (Err x) = x.number
+unread_number (Value v e) = 6
+unread_number Blank = 6
+unread_number (Refused x) = x.number
 
 -- its place: its own, or that one where it is blank
 abbrev pub unread_place : ℕ → Field → ℕ
-unread_place at (Ok m) = at
-unread_place at (Err x) = x.place
+unread_place at (Value v e) = at
+unread_place at Blank = at
+unread_place at (Refused x) = x.place
 
 -- a signed number lies in a range
 abbrev pub whole_in : ℕ → ℤ → ℕ → Bool
@@ -83,15 +87,15 @@ whole_in lo (pos n) hi = within_of lo n hi
 whole_in lo (negsuc n) hi = false
 
 abbrev pub value_in : ℕ → Field → ℕ → Bool
-value_in lo (Ok (Some m)) hi = whole_in lo m.units hi
-value_in lo (Ok None) hi = false
-value_in lo (Err x) hi = false
+value_in lo (Value v e) hi = whole_in lo v hi
+value_in lo Blank hi = false
+value_in lo (Refused x) hi = false
 
 -- what a count says: a blank count is 0
 abbrev pub count_in : ℕ → Field → ℕ → Bool
-count_in lo (Ok (Some m)) hi = whole_in lo m.units hi
-count_in lo (Ok None) hi = within_of lo 0 hi
-count_in lo (Err x) hi = false
+count_in lo (Value v e) hi = whole_in lo v hi
+count_in lo Blank hi = within_of lo 0 hi
+count_in lo (Refused x) hi = false
 
 -- the number that a field says; 0 where it says none
 abbrev pub whole_of : ℤ → ℕ
@@ -99,9 +103,9 @@ whole_of (pos n) = n
 whole_of (negsuc n) = 0
 
 abbrev pub number_of : Field → ℕ
-number_of (Ok (Some m)) = whole_of m.units
-number_of (Ok None) = 0
-number_of (Err x) = 0
+number_of (Value v e) = whole_of v
+number_of Blank = 0
+number_of (Refused x) = 0
 
 -- a field, by its first byte and its last, that must be a number in a range
 abbrev pub number_tests : Field → ℕ → ℕ → ℕ → ℕ → List Test
@@ -117,23 +121,29 @@ readable_test f at = test (readable? f) (unread_number f) (unread_place at f)
 
 -- ---- the same, one field after the other: what the code hands on of a field
 
--- the verdict on what was read: its refusal is the fault
-abbrev pub fault_of : {A : Type 0} → Result A Refusal → Verdict
-fault_of (Ok a) = Ok tt
-fault_of (Err x) = Err x
+-- the verdict on a field: its refusal is the fault
+abbrev pub fault_of : Field → Verdict
+fault_of (Value v e) = Ok tt
+fault_of Blank = Ok tt
+fault_of (Refused x) = Err x
+
+-- the verdict on a number that was read: its refusal is the fault
+abbrev pub verdict_of : {A : Type 0} → Result A Refusal → Verdict
+verdict_of (Ok a) = Ok tt
+verdict_of (Err x) = Err x
 
 -- a number in a range, or 7
-abbrev pub in_range : Number → ℕ → ℕ → ℕ → Result Number Refusal
-in_range m at lo hi = pick (whole_in lo m.units hi) (Ok m) (Err (refusal_at 7 at))
+abbrev pub in_range : ℤ → ℤ → ℕ → ℕ → ℕ → Result Number Refusal
+in_range v e at lo hi = pick (whole_in lo v hi) (Ok (record { units = v; exponent = e })) (Err (refusal_at 7 at))
 
 -- a field, by its first byte and its last, that must be a number in a range: the number; else its own refusal, 6 where it is blank, 7 outside the range
 abbrev pub needed_of : Field → ℕ → ℕ → ℕ → ℕ → Result Number Refusal
-needed_of (Ok (Some m)) at last lo hi = in_range m at lo hi
-needed_of (Ok None) at last lo hi = Err (refusal_at 6 last)
-needed_of (Err x) at last lo hi = Err x
+needed_of (Value v e) at last lo hi = in_range v e at lo hi
+needed_of Blank at last lo hi = Err (refusal_at 6 last)
+needed_of (Refused x) at last lo hi = Err x
 
 -- a count, whose blank field says 0
 abbrev pub counted_of : Field → ℕ → ℕ → ℕ → Result Number Refusal
-counted_of (Ok (Some m)) at lo hi = in_range m at lo hi
-counted_of (Ok None) at lo hi = in_range (record { units = pos 0; exponent = pos 0 }) at lo hi
-counted_of (Err x) at lo hi = Err x
+counted_of (Value v e) at lo hi = in_range v e at lo hi
+counted_of Blank at lo hi = in_range (pos 0) (pos 0) at lo hi
+counted_of (Refused x) at lo hi = Err x

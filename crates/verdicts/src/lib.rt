@@ -6,7 +6,7 @@
 ghost use Rattle.std.specs.Prelude.{◌≡◌, ◌+◌, ◌<◌, [], ◌∷◌, length};
 ghost use Rattle.words.specs.Words.{place_of};
 ghost use Rattle.decimal.specs.declared.Form.TheVariants.{I6};
-ghost use Rattle.verdicts.specs.Tests.{first_fault, text_at, text_test, in_range, needed_of, counted_of, whole_in, whole_of};
+ghost use Rattle.verdicts.specs.Tests.{first_fault, text_at, text_test, fault_of, in_range, needed_of, counted_of, whole_in, whole_of};
 ghost use Rattle.verdicts.specs.Numbers.{first_text, at, last_of};
 
 use decimal::{Form, Number};
@@ -69,9 +69,20 @@ pub fn whole(v: i64) -> u64
     v as u64
 }
 
+// The verdict on a field: its refusal is the fault. A listed field is a value or blank, so this is all
+// that is asked of it.
+pub fn fault(f: Field) -> Verdict
+    ensures { result ≡ fault_of f }
+{
+    match f {
+        Field::Refused(x) => Err(x),
+        _ => Ok(()),
+    }
+}
+
 // A number under its range: 7 at the field's first byte.
 fn in_range(x: Number, place: u64, lo: u64, hi: u64) -> Result<Number, Refusal>
-    ensures { result ≡ in_range x place lo hi }
+    ensures { result ≡ in_range x.units x.exponent place lo hi }
 {
     if whole_in(lo, x.units, hi) {
         return Ok(x);
@@ -93,10 +104,13 @@ pub fn number(r: &[u8], byte: usize, form: Form, least: u64, most: u64) -> Resul
     ensures { result ≡ needed_of (at r.now byte form) (place_of byte) (last_of byte form) least most }
 {
     let first = words::place(byte);
-    match field(r, byte, form)? {
-        Some(x) => in_range(x, first as u64, least, most),
-        None => Err(words::at_place(6, (first + (decimal::width(form) - 1)) as u64)),
-    }
+    let f = field(r, byte, form);
+    // docs/RULES.md, "Forms for each place": the value is taken, or the refusal handed up
+    let Field::Value(units, exponent) = f else {
+        fault(f)?;
+        return Err(words::at_place(6, (first + (decimal::width(form) - 1)) as u64));
+    };
+    in_range(Number { units, exponent }, first as u64, least, most)
 }
 
 // The count of six columns at document 01's byte: the number, or the refusal. It may be blank, and is 0
@@ -104,10 +118,19 @@ pub fn number(r: &[u8], byte: usize, form: Form, least: u64, most: u64) -> Resul
 pub fn count(r: &[u8], byte: usize, least: u64, most: u64) -> Result<Number, Refusal>
     ensures { result ≡ counted_of (at r.now byte I6) (place_of byte) least most }
 {
-    let nought = Number {
-        units: 0,
-        exponent: 0,
+    let place = words::place(byte) as u64;
+    let f = field(r, byte, Form::I6);
+    let Field::Value(units, exponent) = f else {
+        fault(f)?;
+        return in_range(
+            Number {
+                units: 0,
+                exponent: 0,
+            },
+            place,
+            least,
+            most,
+        );
     };
-    let x = field(r, byte, Form::I6)?.unwrap_or(nought);
-    in_range(x, words::place(byte) as u64, least, most)
+    in_range(Number { units, exponent }, place, least, most)
 }

@@ -10,6 +10,7 @@ ghost use Rattle.volume.specs.Volume.{pointer_tests, class_text, volume_record, 
 ghost use Rattle.decimal.specs.declared.Form.TheVariants.{I8};
 
 use decimal::Form;
+use fields::Field;
 use verdicts::Verdict;
 use words::Refusal;
 
@@ -62,8 +63,8 @@ pub fn record(run: u64, m: u64, k: u64, r: &[u8]) -> Verdict
 pub fn count_at(directory: &[u8], byte: usize) -> u64
     ensures { result ≡ number_at directory.now byte I8 }
 {
-    match verdicts::field(directory, byte, Form::I8) {
-        Ok(Some(x)) => verdicts::whole(x.units),
-        _ => 0,
-    }
+    let Field::Value(units, _) = verdicts::field(directory, byte, Form::I8) else {
+        return 0;
+    };
+    verdicts::whole(units)
 }
