@@ -62,7 +62,8 @@ pub fn width(form: Form) -> usize
     }
 }
 
-fn shape_of(form: Form) -> Shape
+// The shape of a field of this form, with its places.
+pub fn shape_of(form: Form) -> Shape
     ensures { result ≡ shape_of form }
 {
     match form {
