@@ -10,6 +10,7 @@ ghost use Rattle.writing.specs.Writing.{written};
 ghost use Rattle.cards.specs.Check.{body_of, fault_of, judged, sort_by, first_holds, line_holds, leader_holds};
 ghost use Rattle.cards.specs.Check.{lines_of, leaders_of, check_of, Few, pairs_from, numbers_of, list_of};
 
+use plan::Plan;
 use words::Refusal;
 
 // A card: how many lines and how many leader entries it has.
@@ -49,7 +50,7 @@ fn body(kind: u64) -> Option<usize>
 fn fault(b: &[u8], want: u64, holds: bool, at: usize) -> Result<(), Refusal>
     ensures { result ≡ judged (fault_of want holds b.now) at (Ok tt) }
 {
-    if b.len() == 0 {
+    if b.is_empty() {
         return refused(21, at);
     }
     let kind = entry::kind(b);
@@ -59,7 +60,7 @@ fn fault(b: &[u8], want: u64, holds: bool, at: usize) -> Result<(), Refusal>
     if !entry::whole(b, long) {
         return refused(21, at);
     }
-    if words::both(words::is(kind, want), holds) {
+    if kind == want && holds {
         return Ok(());
     }
     refused(22, at)
@@ -84,16 +85,21 @@ fn sort_by(w: u64, d: u64) -> u64
 }
 
 // Kind 1: n, L, w and d are such as an image's first record names, with s as 0.
+#[tactic(auto, unfolding(crate::specs::Check::first_holds))]
 fn first_holds(b: &[u8]) -> bool
     ensures { result ≡ first_holds b.now }
 {
-    let mut p = plan::zero();
-    p.n = words::four(b, 1);
-    p.l = words::four(b, 5);
-    p.w = words::four(b, 9);
-    p.d = words::four(b, 13);
-    p.sort = sort_by(p.w, p.d);
-    allowed::good(plan::IMAGE, p)
+    let w = words::four(b, 9);
+    let d = words::four(b, 13);
+    let named = Plan {
+        n: words::four(b, 1),
+        l: words::four(b, 5),
+        w,
+        d,
+        sort: sort_by(w, d),
+        ..plan::zero()
+    };
+    allowed::good(plan::IMAGE, named)
 }
 
 // A line's number is the one due, and left fill and data count add up, an ordinary sum, to w at most.
@@ -101,11 +107,12 @@ fn line_agrees(number: u64, left: u64, count: u64, k: u64, w: u64) -> bool
     requires { (left < 2 ^ 32) × (count < 2 ^ 32) }
     ensures { result ≡ both_of (eqb number k) (leb (left + count) w) }
 {
-    words::both(words::is(number, k), left + count <= w)
+    number == k && left + count <= w
 }
 
 // Kind 2: what the entry says of line k. An entry that is there is tested once for its bytes, and not
 // at each number (docs/SPEED.md).
+#[tactic(auto, unfolding(crate::specs::Check::line_holds))]
 fn line_holds(b: &[u8], k: u64, w: u64) -> bool
     ensures { result ≡ line_holds k w b.now }
 {
@@ -124,16 +131,12 @@ fn line_holds(b: &[u8], k: u64, w: u64) -> bool
 }
 
 // Kind 3: the leader record's ordinal, and a start that is the sum of the lengths before it.
+#[tactic(auto, unfolding(crate::specs::Check::leader_holds))]
 fn leader_holds(b: &[u8], k: u64, sum: u64) -> bool
     ensures value { result ≡ leader_holds k sum b.now }
     ensures k_bound { result ≡ true → k ≤ 255 }
 {
-    let ordinal = words::byte(b, 1);
-    let start = words::four(b, 2);
-    if ordinal != k {
-        return false;
-    }
-    start == sum
+    words::byte(b, 1) == k && words::four(b, 2) == sum
 }
 
 // The lines' entries, from the card's 18th byte on: every line, or what is first wrong.
@@ -183,11 +186,8 @@ fn two_at(b: &[u8], at: usize) -> (u64, u64)
     requires { at ≤ 9999999999 }
     ensures { (result.0 ≡ four_at b.now at) × (result.1 ≡ four_at b.now (at + 4)) }
 {
-    let len = b.len();
-    if 8 <= len {
-        if at <= len - 8 {
-            return (words::four_there(b, at), words::four_there(b, at + 4));
-        }
+    if at + 8 <= b.len() {
+        return (words::four_there(b, at), words::four_there(b, at + 4));
     }
     (words::four(b, at), words::four(b, at + 4))
 }
@@ -218,6 +218,13 @@ pub fn numbers(card: &[u8], out: &mut [u64]) -> Checked
     let lines = read.lines as usize;
     pairs(card, 1, 8, 2, out, 0);
     pairs(card, 22, 13, lines, out, 4);
-    pairs(card, 19 + 13 * lines, 10, read.entries as usize, out, 4 + 2 * lines);
+    pairs(
+        card,
+        19 + 13 * lines,
+        10,
+        read.entries as usize,
+        out,
+        4 + 2 * lines,
+    );
     Ok(read)
 }

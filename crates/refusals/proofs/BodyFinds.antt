@@ -29,7 +29,7 @@ use Rattle.plan.specs.declared.Plan.{Plan}
 use Rattle.verdicts.specs.Tests.{first_fault, text_at, each, number_of, Verdict}
 use Rattle.verdicts.specs.Numbers.{Number, number_at, row_tests, numbers_tests}
 use Rattle.volume.specs.Volume.{class_text, volume_numbers, volume_tests, pointer_numbers, pointer_tests, volume_record}
-use Rattle.leader.specs.Leader.{pairs, count_at, pair_tests, leader_tests, listed_tests, fields_tests, leader_record}
+use Rattle.leader.specs.Leader.{pairs, count_at, slot_in, pair_tests, leader_tests, listed_tests, fields_tests, leader_record}
 use Rattle.leader.specs.declared.Pair as declared
 use Rattle.image.specs.Image.{sort_in, image_numbers, agree_tests, agreements, image_tests, line_tests, image_record}
 use Rattle.image.proofs.ImageLaws.{sort_in_lem}
@@ -114,7 +114,7 @@ module _ (r : List ℕ) (size : ℕ) (long : length r ≡ size) where
   -- pairs, by the ranges of their slot
   abbrev pair_rules : declared.Pair → List Rule
   pair_rules x =
-      pair r x.byte x.form (slot_of x.row).least (slot_of x.row).most (slot_of x.row).shortest (slot_of x.row).longest
+      pair r x.byte x.form (slot_in x.row).least (slot_in x.row).most (slot_in x.row).shortest (slot_in x.row).longest
 
   pair? : declared.Pair → Bool
   pair? x = both_of (inside? size x.byte I6) (both_of (inside? size (x.byte + 6) x.form) (whole? x.form))
@@ -129,8 +129,8 @@ module _ (r : List ℕ) (size : ℕ) (long : length r ≡ size) where
       let b = both_r (inside? size x.byte I6) _ q in
       pair_finds r x.byte x.form (inside_is x.byte I6 a)
       (inside_is (x.byte + 6) x.form (both_l (inside? size (x.byte + 6) x.form) _ b))
-      (whole_is x.form (both_r (inside? size (x.byte + 6) x.form) _ b)) (slot_of x.row).least (slot_of x.row).most (slot_of x.row).shortest
-      (slot_of x.row).longest) xs e)
+      (whole_is x.form (both_r (inside? size (x.byte + 6) x.form) _ b)) (slot_in x.row).least (slot_in x.row).most (slot_in x.row).shortest
+      (slot_in x.row).longest) xs e)
 
 -- ---- first records
 
