@@ -77,16 +77,11 @@ fn put_lines(image: &[u8], p: Plan, out: &mut [u8])
     requires { (p.n ≤ 999999) × (p.l ≤ 99999999) × (17 + 13 * p.n ≤ length out.old) }
     ensures { out.new ≡ written out.old 17 (lines_bytes p.n 0 720 p.l image.now) }
 {
-    let mut k: u64 = 0;
-    let mut to: usize = 17;
-    let mut at: usize = 720;
-    while k < p.n {
+    for k in 0..p.n {
+        let at = (720 + k * p.l) as usize;
         let left = words::four(image, at + words::place(21));
         let data = words::four(image, at + words::place(25));
-        put_line(out, to, k + 1, left, data);
-        at += p.l as usize;
-        to += 13;
-        k += 1;
+        put_line(out, 17 + 13 * k as usize, k + 1, left, data);
     }
 }
 
@@ -96,13 +91,9 @@ fn put_leaders(q: Plan, records: u64, out: &mut [u8], from: usize)
     requires records_bound { (records ≤ total_of leader q) × (from + 10 * records ≤ length out.old) }
     ensures { out.new ≡ written out.old from (leaders_bytes records 0 q) }
 {
-    let mut k: u64 = 0;
-    let mut to = from;
-    while k < records {
+    for k in 0..records {
         let due = plan::due_of(plan::LEADER, q, k);
-        put_leader(out, to, k + 1, due.start, due.length);
-        to += 10;
-        k += 1;
+        put_leader(out, from + 10 * k as usize, k + 1, due.start, due.length);
     }
 }
 

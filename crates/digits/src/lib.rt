@@ -21,14 +21,12 @@ pub fn skip(f: &[u8], at: usize, end: usize) -> usize
     requires { (at ≤ end) × (end ≤ length f.now) }
     ensures { Skipped f.now at end result }
 {
-    let mut i = at;
-    while i < end {
+    for i in at..end {
         if f[i] != b' ' {
             return i;
         }
-        i += 1;
     }
-    i
+    end
 }
 
 // The number that the digits from `at` to `end` make behind those that made `acc`, eighteen in all at
@@ -39,17 +37,11 @@ fn run(f: &[u8], at: usize, end: usize, acc: u64) -> Option<u64>
     ensures { result ≡ digits_of acc (slice at end f.now) }
 {
     let mut n = acc;
-    let mut i = at;
-    while i < end {
-        let c = f[i];
-        if c < b'0' {
-            return None;
-        }
-        if b'9' < c {
+    for &c in &f[at..end] {
+        if c < b'0' || b'9' < c {
             return None;
         }
         n = n * 10 + ((c - b'0') as u64);
-        i += 1;
     }
     Some(n)
 }
@@ -68,10 +60,7 @@ fn behind(f: &[u8], k: usize) -> usize
     requires { k < length f.now }
     ensures { result ≡ k + signs (get_or f.now k 0) }
 {
-    if f[k] == b'-' {
-        return k + 1;
-    }
-    if f[k] == b'+' {
+    if f[k] == b'-' || f[k] == b'+' {
         return k + 1;
     }
     k

@@ -1,40 +1,29 @@
 -- What a number field at a place of some bytes says, and that answer in document 01's words. Assumes nothing.
-use Rattle.std.specs.Prelude.{ℕ, ◌+◌, List, Bool, false, eqb, ltb, length, take, drop, ℤ, Option, Some, None, Result, Ok, Err}
+use Rattle.std.specs.Prelude.{ℕ, ◌+◌, List, Bool, false, eqb, ltb, length, take, drop, Some, None, Ok, Err}
 use Rattle.words.specs.Tests.{pick}
-use Rattle.words.specs.Answer.{Answer, valued, bare, blank as blank_word, refused_as, refusal_at}
-use Rattle.words.specs.declared.Refusal.{Refusal}
+use Rattle.words.specs.Answer.{Answer, valued, bare, blank, refused_as, refusal_at}
 use Rattle.decimal.specs.Forms.{width_of, shape_of}
 use Rattle.decimal.specs.Scan.{written}
 use Rattle.decimal.specs.declared.Form.{Form}
-use Rattle.decimal.specs.declared.Number.{Number}
 use Rattle.decimal.specs.Written.{Written}
 use Rattle.bad_byte.specs.Columns.{bad_in}
-
--- what a number field says: a number or, of blanks alone, none; or a refusal
-abbrev pub Field : Type 0
-Field = Result (Option Number) Refusal
+use Rattle.fields.specs.declared.Field.{Field}
+use Rattle.fields.specs.declared.Field.TheVariants.{Value, Blank, Refused}
 
 -- document 01's word and numbers for each case
 abbrev pub field_as : Field → Answer
-field_as (Ok (Some x)) = valued x.units x.exponent
-field_as (Ok None) = bare blank_word
-field_as (Err r) = refused_as r
-
--- so many units in the last written place, with the exponent
-abbrev pub value : ℤ → ℤ → Field
-value m e = Ok (Some (record { units = m; exponent = e }))
-
--- blanks alone
-abbrev pub blank : Field
-blank = Ok None
+field_as (Value m e) = valued m e
+field_as Blank = bare blank
+field_as (Refused r) = refused_as r
 
 -- a refusal of a field: ordinal 0
 abbrev pub refuse : ℕ → ℕ → Field
-refuse n at = Err (refusal_at n at)
+refuse n at = Refused (refusal_at n at)
 
 -- badly written is refusal 6, at that place
 abbrev pub from_written : ℕ → Written → Field
-from_written at (Ok x) = Ok x
+from_written at (Ok (Some x)) = Value x.units x.exponent
+from_written at (Ok None) = Blank
 from_written at (Err x) = refuse 6 at
 
 -- the bytes of the field of a form at a place
@@ -57,5 +46,6 @@ rough_at b at k = pick (ltb (length b) (at + width_of k)) (refuse 2 0) (from_wri
 
 -- a field that is badly written
 abbrev pub badly? : Field → Bool
-badly? (Ok x) = false
-badly? (Err x) = eqb x.number 6
+badly? (Value m e) = false
+badly? Blank = false
+badly? (Refused x) = eqb x.number 6

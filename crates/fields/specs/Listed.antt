@@ -4,7 +4,8 @@ use Rattle.words.specs.Tests.{pick, within_of}
 use Rattle.words.specs.Words.{place_of}
 use Rattle.decimal.specs.declared.Form.{Form}
 use Rattle.decimal.specs.declared.Form.TheVariants.{I4, I16, F8d3, F16d7, E20d13}
-use Rattle.fields.specs.Field.{Field, refuse, field_at}
+use Rattle.fields.specs.Field.{refuse, field_at}
+use Rattle.fields.specs.declared.Field.{Field}
 use Rattle.fields.specs.declared.Listed.{Listed}
 
 -- a row: the first byte, counted from 1, and the form

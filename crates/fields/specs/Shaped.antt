@@ -4,7 +4,8 @@ use Rattle.std.specs.Prelude.{ℕ, ◌+◌, List, ltb, length, take, drop}
 use Rattle.words.specs.Tests.{pick}
 use Rattle.decimal.specs.Scan.{decimal_of}
 use Rattle.decimal.specs.declared.Shape.{Shape}
-use Rattle.fields.specs.Field.{Field, refuse, from_written}
+use Rattle.fields.specs.Field.{refuse, from_written}
+use Rattle.fields.specs.declared.Field.{Field}
 
 -- 2 where the bytes end before the field does, else what its bytes say as a field of the shape; a 6 is at the field's first byte so far
 unfoldable pub shaped_at : List ℕ → ℕ → ℕ → Shape → Field

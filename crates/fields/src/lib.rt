@@ -11,11 +11,18 @@ ghost use Rattle.fields.specs.Shaped.{shaped_at};
 ghost use Rattle.fields.specs.Field.{field_at, rough_at, bad_place, badly?, from_written, refuse};
 ghost use Rattle.fields.specs.Listed.{row, listed, listed_field};
 
-use decimal::{Form, Number, Shape, Written};
+use decimal::{Form, Shape, Written};
 use words::Refusal;
 
-// What a number field says: a number, or None where it is blank; or a refusal.
-pub type Field = Result<Option<Number>, Refusal>;
+// What a number field says: one signed whole number of units in the last written place with its
+// exponent (0 for I and F), blank, or a refusal.
+// kept: docs/RULES.md, "Forms for each place", names `Field::Value`, which callers take by `let .. else`.
+#[derive(Clone, Copy)]
+pub enum Field {
+    Value(i64, i64),
+    Blank,
+    Refused(Refusal),
+}
 
 // A listed field: its first byte as document 01 counts, from 1, and its form.
 #[derive(Clone, Copy)]
@@ -28,7 +35,7 @@ pub struct Listed {
 fn refused(number: u64, place: u64) -> Field
     ensures { result ≡ refuse number place }
 {
-    Err(words::at_place(number, place))
+    Field::Refused(words::at_place(number, place))
 }
 
 // Badly written is refusal 6, at the field's first byte so far.
@@ -36,7 +43,8 @@ fn from_written(w: Written, at: usize) -> Field
     ensures { result ≡ from_written at w }
 {
     match w {
-        Ok(x) => Ok(x),
+        Ok(Some(x)) => Field::Value(x.units, x.exponent),
+        Ok(None) => Field::Blank,
         Err(_) => refused(6, at as u64),
     }
 }
@@ -110,8 +118,9 @@ fn badly(f: Field) -> bool
     ensures { result ≡ badly? f }
 {
     match f {
-        Ok(_) => false,
-        Err(x) => x.number == 6,
+        Field::Value(_, _) => false,
+        Field::Blank => false,
+        Field::Refused(x) => x.number == 6,
     }
 }
 

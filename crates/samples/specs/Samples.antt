@@ -1,6 +1,6 @@
 -- One sample of a line (request No. 2), asked of what the line view shows: what stands at its place, its floats, its power. The view is a value
 -- here, so that every view may stand for it; a byte past the end of the bytes counts as 0. Assumes nothing.
-use Rattle.std.specs.Prelude.{ℕ, ◌+◌, ◌*◌, Bool, true, not, List, ltb, eqb, Float, Option, Some, None, Result, Ok, Err}
+use Rattle.std.specs.Prelude.{ℕ, ◌+◌, ◌*◌, Bool, true, not, List, ltb, eqb, Float, Option, ok_or, Result, Ok, Err}
 use Rattle.std.specs.Float.{binary32}
 use Rattle.std.specs.Float.Ieee.{to_bits, nan_bits}
 use Rattle.words.specs.Tests.{pick, both_of}
@@ -70,8 +70,7 @@ sampled_by v sort bs i = floated (patterned_by v sort bs i)
 
 -- 24, last: a part or the power is not finite
 abbrev pub on_power : Option ℕ → Powered
-on_power (Some n) = Ok n
-on_power None = Err (Refused (bare_refusal 24))
+on_power x = ok_or x (Refused (bare_refusal 24))
 
 -- the power of a complex sample that stands there
 abbrev pub power_at : List ℕ → ℕ → Powered

@@ -24,13 +24,11 @@ fn compare(directory: &[u8], counts: &[u64]) -> Agreement
     requires { length counts.now ≤ 6 }
     ensures { result ≡ compare_from 1 directory.now counts.now }
 {
-    let mut i = 0;
-    while i < counts.len() {
+    for (i, count) in counts.iter().enumerate() {
         let byte = 360 * (i + 1) + 101;
-        if counts[i] != volume::count_at(directory, byte) {
+        if *count != volume::count_at(directory, byte) {
             return differing(words::place(byte) as u64);
         }
-        i += 1;
     }
     Ok(())
 }
