@@ -22,6 +22,7 @@ const SAMPLES: usize = 256;
 const COUNTS: usize = 16;
 
 // Why a line is not shown, as it is printed.
+#[derive(Drop)]
 struct Why(Unshown);
 
 impl fmt::Display for Why {
@@ -35,9 +36,10 @@ impl fmt::Display for Why {
 
 // One number for bytes in their order, printed in place of what may be many: one other byte changes it.
 fn check_of(bytes: &[u8]) -> u64 {
-    bytes.iter().fold(0, |sum, byte| {
-        (sum % 65521 * 257 + u64::from(*byte) + 1) % 65521
-    })
+    let sum = bytes.iter().fold(0, |sum, byte| {
+        sum % 65521 * 257 + u64::from(*byte) + 1
+    });
+    sum % 65521
 }
 
 fn view<P: Print>(rt: &P, bytes: &[u8], line: u64) -> std::io::Result<()> {
@@ -85,7 +87,10 @@ fn ask<R: AllocGlobal + Print>(
             let mut row = [(numbers.number() & 0xffff) as u16; SAMPLES];
             copy(rt, bytes, line, &mut row[..many])
         }
-        b's' => check(rt, bytes, &numbers.take(COUNTS).collect(rt.alloc())?),
+        b's' => {
+            let counts: Vec<u64> = numbers.take(COUNTS).collect(rt.alloc())?;
+            check(rt, bytes, &counts)
+        }
         _ => Ok(()),
     }
 }
