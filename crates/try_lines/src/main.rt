@@ -19,6 +19,7 @@ const HELD: usize = 65536;
 
 // The most samples of a row, and the most counts of a set.
 const SAMPLES: usize = 256;
+
 const COUNTS: usize = 16;
 
 // Why a line is not shown, as it is printed.
@@ -36,9 +37,7 @@ impl fmt::Display for Why {
 
 // One number for bytes in their order, printed in place of what may be many: one other byte changes it.
 fn check_of(bytes: &[u8]) -> u64 {
-    let sum = bytes.iter().fold(0, |sum, byte| {
-        sum % 65521 * 257 + u64::from(*byte) + 1
-    });
+    let sum = bytes.iter().fold(0, |sum, byte| { sum % 65521 * 257 + u64::from(*byte) + 1 });
     sum % 65521
 }
 
