@@ -9,14 +9,14 @@ use lib.ListN.{length, take, drop, length-drop, length-take}
 use lib.Seq.{length-take-le}
 use mathlib.Core.Bool.{Bool, true, false, false≢true}
 use borrow.Author.Tests.{lt-ltb, le-ltb, ltb-true, ltb-false}
+use Rattle.std.proofs.Common.{Some, None, Ok, Err}
 use Rattle.words.specs.Tests.{pick, within_of}
 use Rattle.words.specs.Words.{place_of}
 use Rattle.decimal.specs.Forms.{width_of, shape_of}
 use Rattle.decimal.specs.Scan.{written, decimal_of}
 use Rattle.decimal.specs.declared.Form.{Form}
 use Rattle.decimal.specs.declared.Shape.{Shape}
-use Rattle.decimal.specs.declared.Written.{Written}
-use Rattle.decimal.specs.declared.Written.TheVariants.{Number, Blank as Blank', Bad}
+use Rattle.decimal.specs.Written.{Written}
 use Rattle.decimal.proofs.Laws.{wide}
 use Rattle.bad_byte.proofs.Named.{at_most}
 use Rattle.fields.specs.Shaped.{shaped_at}
@@ -94,9 +94,9 @@ module _ (b : List ℕ) (at : ℕ) (k : Form) where
       go : (t : Bool) (w : Written) → badly? (pick t (refuse 2 0) (from_written at w)) ≡ true
           → refuse 6 (bad_place b at k) ≡ pick t (refuse 2 0) (from_written (bad_place b at k) w)
       go true w q = absurd (false≢true q)
-      go false (Number m e) q = absurd (false≢true q)
-      go false Blank' q = absurd (false≢true q)
-      go false Bad q = refl
+      go false (Ok (Some x)) q = absurd (false≢true q)
+      go false (Ok None) q = absurd (false≢true q)
+      go false (Err x) q = refl
 
   pub kept : badly? (rough_at b at k) ≡ false → rough_at b at k ≡ field_at b at k
   unfolding rough_at field_at
@@ -105,9 +105,9 @@ module _ (b : List ℕ) (at : ℕ) (k : Form) where
       go : (t : Bool) (w : Written) → badly? (pick t (refuse 2 0) (from_written at w)) ≡ false
           → pick t (refuse 2 0) (from_written at w) ≡ pick t (refuse 2 0) (from_written (bad_place b at k) w)
       go true w q = refl
-      go false (Number m e) q = refl
-      go false Blank' q = refl
-      go false Bad q = absurd (false≢true (sym q))
+      go false (Ok (Some x)) q = refl
+      go false (Ok None) q = refl
+      go false (Err x) q = absurd (false≢true (sym q))
 
 -- a field that is blank is there
 pub blank_there : (b : List ℕ) (at : ℕ) (k : Form) → field_at b at k ≡ Blank → at + width_of k ≤ length b

@@ -63,7 +63,7 @@ waited : (x y z : Bool) (h t : Verdict) (o a left m₁ m₂ m : ℕ)
 unfolding ended_of short_of
 waited true y z h t o a left m₁ m₂ m e = inl (go (eqb left 0) refl e)
   where
-    go : (b : Bool) → eqb left 0 ≡ b → Err (pick b (Wait 0) (refused_at o a 9 0)) ≡ Err (Wait m) → left ≡ 0
+    go : (b : Bool) → eqb left 0 ≡ b → ◌≡◌ {A = Turn} (Err (pick b (Wait 0) (refused_at o a 9 0))) (Err (Wait m)) → left ≡ 0
     go true q f = eqb-true left 0 q
     go false q f = let w : ◌≡◌ {A = ℕ} 0 1 = cc in absurd (omega arith)
 waited false true z h t o a left m₁ m₂ m e = inr (inl refl)

@@ -1,7 +1,7 @@
 -- The promises in the words of document 01: what is shown of the walk, the line view, the row copy and the set check, said of the answer's word and
 -- numbers. Each word stands for one case of its enum, so each statement is the one over the cases.
 use Prim.Native.Nat.{ℕ, ◌+◌, ◌≤◌, ◌<◌}
-use mathlib.Core.Path.{◌≡◌, refl, ap}
+use mathlib.Core.Path.{◌≡◌, refl, ap, ap₂, ◌∙◌}
 use mathlib.Core.Logic.{◌↔◌}
 use mathlib.Core.List.{List, [], ◌∷◌, ◌++◌}
 use mathlib.Core.Bool.{Bool, true, false}
@@ -62,7 +62,12 @@ abbrev pub showing : ℕ → ℕ → ℕ → Answer
 showing start count left = record { word = shown; numbers = pos start ∷ pos count ∷ pos left ∷ [] }
 
 shown_is : (v : View) (start count left : ℕ) → view_as v ≡ showing start count left → v ≡ shown_view start count left
-shown_is (Ok x) start count left e = let n = ap (λ (x : Answer). x.numbers) e in cc
+shown_is (Ok x) start count left e =
+    let n = ap (λ (y : Answer). y.numbers) e in
+    let a : x.start ≡ start = cc in
+    let b : x.count ≡ count = cc in
+    let c : x.left ≡ left = cc in
+    ap (λ (i : ℕ). shown_view i x.count x.left) a ∙ ap₂ (λ (i j : ℕ). shown_view start i j) b c
 shown_is (Err (unshown.Wait n)) start count left e = absurd (let w = ap (λ (x : Answer). x.word) e in let z : ◌≡◌ {A = ℕ} 0 1 = cc in omega arith)
 shown_is (Err (unshown.Refused r)) start count left e = absurd (let w = ap (λ (x : Answer). x.word) e in let z : ◌≡◌ {A = ℕ} 0 1 = cc in omega arith)
 

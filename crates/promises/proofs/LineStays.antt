@@ -31,7 +31,7 @@ use Rattle.promises.proofs.PlanNamed.{first_walked}
 use Rattle.promises.proofs.Stays.{refusal_stays}
 use Rattle.promises.proofs.Turns.{turn_pass_stays, next_stays}
 use Rattle.lines.specs.declared.Unshown.TheVariants as unshown
-use Rattle.std.specs.Prelude.{Err}
+use Rattle.std.specs.Prelude.{Ok, Err}
 
 -- a part that is held stays as it is
 part_stays : (S m : ℕ) (bs ys : List ℕ) → S + m ≤ length bs → take m (drop S (bs ++ ys)) ≡ take m (drop S bs)

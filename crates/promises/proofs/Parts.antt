@@ -156,12 +156,19 @@ header_take ordinal c long n b h =
 
 -- ---- number fields
 
+-- the exponent of what is written
+exponent_of : Written → ℤ
+exponent_of (Ok (Some x)) = x.exponent
+exponent_of (Ok None) = pos 0
+exponent_of (Err x) = pos 0
+
 -- a whole number has no exponent
 pub no_exponent : {s : Shape} {bs : List ℕ} {r : Written} → Good true s bs r → s ≡ Whole → (m e : ℤ) → r ≡ number_written m e → e ≡ pos 0
-no_exponent (blanks s n) q m e z = cc
-no_exponent (whole w) q m e z = cc
-no_exponent (fixed w) q m e z = cc
-no_exponent (expo w g ds n l) q m e z = cc
+unfolding exponent_of
+no_exponent (blanks s n) q m e z = sym (ap exponent_of z)
+no_exponent (whole w) q m e z = sym (ap exponent_of z)
+no_exponent (fixed w) q m e z = sym (ap exponent_of z)
+no_exponent (expo w g ds n l) q m e z = absurd (let y : ◌≡◌ {A = ℕ} 0 1 = cc in omega arith)
 
 -- the field at a byte as what is written there: badly written is 6 at its first bad byte
 abbrev pub reading : List ℕ → ℕ → Form → Written → Field

@@ -21,7 +21,7 @@ use Rattle.plan.specs.declared.Spot.{Spot}
 use Rattle.plan.proofs.CodeLaws.{spot_first}
 use Rattle.bodies.specs.Bodies.{body_of}
 use Rattle.headers.specs.Header.{header_of}
-use Rattle.turns.specs.Turn.{refused_at, on_fine, ended_of, short_of}
+use Rattle.turns.specs.Turn.{Turn, refused_at, on_fine, ended_of, short_of}
 use Rattle.turns.specs.declared.Stop.TheVariants.{Wait, Complete, Refused}
 use Rattle.turns.proofs.TurnLaws.{judge_ended, judge_twelve, judge_fault, judge_part, judge_body}
 use Rattle.turns.proofs.FaultLaws.{FaultCan, need_of, header_can, body_can}
@@ -99,16 +99,16 @@ need_is st g r h =
 abbrev Cut : Bool → ℕ → ℕ → Type 0
 Cut c here long = (c ≡ true) × (here < long)
 
-short_two : (o a n : ℕ) (c : Bool) (x : Refusal) → Err (short_of o a c n) ≡ Err (Refused x) → c ≡ true
+short_two : (o a n : ℕ) (c : Bool) (x : Refusal) → ◌≡◌ {A = Turn} (Err (short_of o a c n)) (Err (Refused x)) → c ≡ true
 unfolding short_of
 short_two o a n true x e = refl
 short_two o a n false x e = absurd (wait≢refused (halt_same e))
 
-ended_two : (o a n : ℕ) (c : Bool) (x : Refusal) → Err (ended_of o a n c) ≡ Err (Refused x) → x.number ≡ 2 → ⊥
+ended_two : (o a n : ℕ) (c : Bool) (x : Refusal) → ◌≡◌ {A = Turn} (Err (ended_of o a n c)) (Err (Refused x)) → x.number ≡ 2 → ⊥
 unfolding ended_of
 ended_two o a n c x = go (eqb n 0) c
   where
-    go : (z c : Bool) → Err (pick z (pick c Complete (Wait 0)) (refused_at o a 9 0)) ≡ Err (Refused x) → x.number ≡ 2 → ⊥
+    go : (z c : Bool) → ◌≡◌ {A = Turn} (Err (pick z (pick c Complete (Wait 0)) (refused_at o a 9 0))) (Err (Refused x)) → x.number ≡ 2 → ⊥
     go true true e t = complete≢refused (halt_same e)
     go true false e t = wait≢refused (halt_same e)
     go false c e t = let n = ap (λ (r : Refusal). r.number) (refused_same (halt_same e)) in omega arith

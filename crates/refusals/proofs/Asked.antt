@@ -31,7 +31,7 @@ use Rattle.walk.specs.Walk.{begin_of, walk_of}
 use Rattle.walk.specs.declared.State.{State}
 use Rattle.walk.specs.declared.Walked.{Walked}
 use Rattle.lines.specs.View.{View, shown_view, view_of, sort_seen}
-use Rattle.copies.specs.Row.{copied_by, copied_of}
+use Rattle.copies.specs.Row.{Copied, copied_by, copied_of}
 use Rattle.copies.specs.Said.{copied_as}
 use Rattle.promises.specs.Newest.{Says}
 use Rattle.promises.specs.Shown.{line_record, data_count}
@@ -96,7 +96,7 @@ module _ (bs : List ℕ) (k m : ℕ) (x : Refusal) where
   copy_to e = go (view_of bs k) refl e
     where
       counts : (start count left : ℕ) → view_of bs k ≡ shown_view start count left → sort_seen bs ≡ 0 → (b : Bool) → ltb m count ≡ b
-          → pick b (Err (unshown.Refused (bare_refusal 15))) (Ok count) ≡ Err (unshown.Refused x) → CopyRefuses bs k m x
+          → ◌≡◌ {A = Copied} (pick b (Err (unshown.Refused (bare_refusal 15))) (Ok count)) (Err (unshown.Refused x)) → CopyRefuses bs k m x
       counts start count left q z true h f =
           let (p, t, (a, c, l)) = (line_named bs k start count left).0 q in
           let r = ltb-true m count h in
@@ -104,8 +104,8 @@ module _ (bs : List ℕ) (k m : ℕ) (x : Refusal) where
       counts start count left q z false h f = absurd (let z : ◌≡◌ {A = ℕ} 0 1 = cc in omega arith)
 
       shown : (start count left : ℕ) → view_of bs k ≡ shown_view start count left → (b : Bool) → eqb (sort_seen bs) 0 ≡ b
-          → pick b (pick (ltb m count) (Err (unshown.Refused (bare_refusal 15))) (Ok count)) (Err (unshown.Refused (bare_refusal 23))) ≡ Err (unshown.Refused x)
-          → CopyRefuses bs k m x
+          → ◌≡◌ {A = Copied} (pick b (pick (ltb m count) (Err (unshown.Refused (bare_refusal 15))) (Ok count)) (Err (unshown.Refused (bare_refusal 23))))
+          (Err (unshown.Refused x)) → CopyRefuses bs k m x
       shown start count left q true z f = counts start count left q (eqb-true (sort_seen bs) 0 z) (ltb m count) refl f
       shown start count left q false z f =
           let (p, t, n) = (line_named bs k start count left).0 q in

@@ -32,6 +32,7 @@ pub fn text(r: &[u8], byte: usize, t: &[u8]) -> bool
 }
 
 // A fixed text: 8 at its first byte.
+#[tactic(auto, unfolding(crate::specs::Tests::first_fault))]
 pub fn fixed(r: &[u8], byte: usize, t: &[u8]) -> Verdict
     requires { byte + length t.now < 1000 }
     ensures { result ≡ first_fault (text_test r.now byte t.now ∷ []) }
@@ -104,13 +105,11 @@ pub fn number(r: &[u8], byte: usize, form: Form, least: u64, most: u64) -> Resul
     ensures { result ≡ needed_of (at r.now byte form) (place_of byte) (last_of byte form) least most }
 {
     let first = words::place(byte);
-    let f = field(r, byte, form);
-    // docs/RULES.md, "Forms for each place": the value is taken, or the refusal handed up
-    let Field::Value(units, exponent) = f else {
-        fault(f)?;
-        return Err(words::at_place(6, (first + (decimal::width(form) - 1)) as u64));
-    };
-    in_range(Number { units, exponent }, first as u64, least, most)
+    match field(r, byte, form) {
+        Field::Value(units, exponent) => in_range(Number { units, exponent }, first as u64, least, most),
+        Field::Blank => Err(words::at_place(6, (first + (decimal::width(form) - 1)) as u64)),
+        Field::Refused(x) => Err(x),
+    }
 }
 
 // The count of six columns at document 01's byte: the number, or the refusal. It may be blank, and is 0
@@ -118,19 +117,13 @@ pub fn number(r: &[u8], byte: usize, form: Form, least: u64, most: u64) -> Resul
 pub fn count(r: &[u8], byte: usize, least: u64, most: u64) -> Result<Number, Refusal>
     ensures { result ≡ counted_of (at r.now byte I6) (place_of byte) least most }
 {
-    let place = words::place(byte) as u64;
-    let f = field(r, byte, Form::I6);
-    let Field::Value(units, exponent) = f else {
-        fault(f)?;
-        return in_range(
-            Number {
-                units: 0,
-                exponent: 0,
-            },
-            place,
-            least,
-            most,
-        );
+    let said = match field(r, byte, Form::I6) {
+        Field::Value(units, exponent) => Number { units, exponent },
+        Field::Blank => Number {
+            units: 0,
+            exponent: 0,
+        },
+        Field::Refused(x) => return Err(x),
     };
-    in_range(Number { units, exponent }, place, least, most)
+    in_range(said, words::place(byte) as u64, least, most)
 }

@@ -24,6 +24,7 @@ pub fn descriptor(r: &[u8]) -> Result<u64, Refusal>
 }
 
 // The class of pointer k of m: `SARL` first, `SART` last, `IMOP` between.
+#[tactic(auto, unfolding(crate::specs::Volume::class_text))]
 fn class(m: u64, k: u64, r: &[u8]) -> Verdict
     ensures { result ≡ first_fault (text_test r.now 65 (class_text m k) ∷ []) }
 {
@@ -48,6 +49,7 @@ fn pointer(m: u64, k: u64, r: &[u8]) -> Verdict
 
 // Record k behind the descriptor of a directory with m pointers: a pointer, or the text record, whose
 // bytes are free.
+#[tactic(auto, unfolding(crate::specs::Volume::volume_record, verdicts::specs::Tests::first_fault))]
 pub fn record(run: u64, m: u64, k: u64, r: &[u8]) -> Verdict
     requires { run ≡ 0 → ⊥ }
     ensures { result ≡ first_fault (volume_record run m k r.now) }

@@ -91,10 +91,8 @@ pub fn four(b: &[u8], at: usize) -> u64
     ensures upper_bound { result < 2 ^ 32 }
 {
     let len = b.len();
-    if 4 <= len {
-        if at <= len - 4 {
-            return four_there(b, at);
-        }
+    if 4 <= len && at <= len - 4 {
+        return four_there(b, at);
     }
     four_short(b, at)
 }
@@ -114,7 +112,7 @@ pub fn place(byte: usize) -> usize
 pub fn both(a: bool, b: bool) -> bool
     ensures { result ≡ both_of a b }
 {
-    if a { b } else { false }
+    a && b
 }
 
 // Two numbers are the same.
@@ -128,5 +126,5 @@ pub fn is(x: u64, y: u64) -> bool
 pub fn within(lo: u64, x: u64, hi: u64) -> bool
     ensures { result ≡ within_of lo x hi }
 {
-    both(lo <= x, x <= hi)
+    lo <= x && x <= hi
 }
