@@ -18,9 +18,9 @@ fn field_reply(x: Field) -> Reply
     ensures { result ≡ reply_of (field_said x) 0 }
 {
     match x {
-        Ok(Some(_)) => c_answer::brief(5, 0, 0),
-        Ok(None) => c_answer::brief(6, 0, 0),
-        Err(r) => c_answer::refusal(r, 0),
+        Field::Value(_, _) => c_answer::brief(5, 0, 0),
+        Field::Blank => c_answer::brief(6, 0, 0),
+        Field::Refused(r) => c_answer::refusal(r, 0),
     }
 }
 
@@ -29,9 +29,9 @@ fn put_value(x: Field, value: &mut [i64])
     requires { 2 ≤ length value.old }
     ensures { value.new ≡ value_by x value.old }
 {
-    if let Ok(Some(number)) = x {
-        value[0] = number.units;
-        value[1] = number.exponent;
+    if let Field::Value(m, e) = x {
+        value[0] = m;
+        value[1] = e;
     }
 }
 
@@ -44,9 +44,12 @@ pub fn sbg_field(bytes: &[u8], number: u64, value: &mut [i64], answer: &mut [u64
     if value.len() < VALUE {
         return 0;
     }
-    c_answer::answer_with(answer, &mut || {
-        let x = fields::listed_field(bytes, number);
-        put_value(x, value);
-        field_reply(x)
-    })
+    c_answer::answer_with(
+        answer,
+        &mut || {
+            let x = fields::listed_field(bytes, number);
+            put_value(x, value);
+            field_reply(x)
+        },
+    )
 }
