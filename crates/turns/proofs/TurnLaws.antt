@@ -105,6 +105,16 @@ module _ (kind : ℕ) (p : Plan) (k : ℕ) (d : Due) (b : List ℕ) (c : Bool) w
   pub halted_answer : {x y : Stop} → x ≡ y → judge_of kind p k d b c ≡ Err y → ◌≡◌ {A = Result Plan Stop} (Err x) (judged_of kind p k d b c)
   halted_answer s e = ap (λ (z : Stop). Err z) s ∙ halted_is e
 
+  -- what was found in the header: its fault is the stop, and without one nothing was found
+  pub header_halts : k < total_of kind p → 12 ≤ length b → (v : Verdict) (y : Stop) → header_of d.ordinal d.codes d.length b ≡ v
+      → passed_of v d ≡ Err y → judge_of kind p k d b c ≡ Err y
+  header_halts going twelve (Ok u) y q e = absurd (halt≢pass y (sym e))
+  header_halts going twelve (Err x) y q e = judge_fault kind p k d b c going twelve x q ∙ e
+
+  pub header_passes : (v : Verdict) (u : Unit {0}) → passed_of v d ≡ Ok u → v ≡ Ok tt
+  header_passes (Ok u) w e = refl
+  header_passes (Err x) w e = absurd (halt≢pass _ e)
+
   -- what was found in the body decides both
   of_found : (first : Bool) (v : Verdict) (q : Plan) → passed_of (named_by v (pick first q p)) d ≡ plan_in (on_fine v d.ordinal d.start (Ok tt)) first q p
   of_found first (Ok u) q = refl

@@ -106,7 +106,12 @@ pub fn number(r: &[u8], byte: usize, form: Form, least: u64, most: u64) -> Resul
 {
     let first = words::place(byte);
     match field(r, byte, form) {
-        Field::Value(units, exponent) => in_range(Number { units, exponent }, first as u64, least, most),
+        Field::Value(units, exponent) => in_range(
+            Number { units, exponent },
+            first as u64,
+            least,
+            most,
+        ),
         Field::Blank => Err(words::at_place(6, (first + (decimal::width(form) - 1)) as u64)),
         Field::Refused(x) => Err(x),
     }
