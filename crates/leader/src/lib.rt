@@ -121,6 +121,7 @@ fn listed(r: &[u8], from: usize, to: usize) -> Verdict
 }
 
 // A record behind the descriptor: a summary, a map record, or one whose bytes are free.
+#[tactic(auto, unfolding(crate::specs::Leader::leader_record, verdicts::specs::Tests::first_fault))]
 pub fn record(run: u64, r: &[u8]) -> Verdict
     requires { run ≡ 0 → ⊥ }
     ensures { result ≡ first_fault (leader_record run r.now) }
