@@ -13,16 +13,14 @@ use Rattle.words.specs.Tests.{pick}
 use Rattle.plan.specs.Plan.{image, zero_plan, first_codes, first_length, codes_of, spot_of, total_of, sum_of, run_counts}
 use Rattle.plan.specs.declared.Plan.{Plan}
 use Rattle.headers.specs.Header.{header_of}
-use Rattle.verdicts.specs.declared.Verdict.{Verdict}
-use Rattle.verdicts.specs.declared.Verdict.TheVariants.{Fine, Fault}
+use Rattle.verdicts.specs.Tests.{Verdict, named_by}
+use Rattle.words.specs.declared.Refusal.{Refusal}
 use Rattle.image.specs.Image.{image_record}
 use Rattle.bodies.specs.Bodies.{first_tests, body_tests, body_of}
-use Rattle.bodies.specs.Named.{plan_of, plan_by, first_of as first_of'}
-use Rattle.turns.specs.Turn.{on_fine, short_of, judge_of}
+use Rattle.bodies.specs.Named.{plan_of, first_of as first_of'}
+use Rattle.turns.specs.Turn.{Turn, on_fine, short_of, judge_of}
 use Rattle.turns.specs.declared.Stop.{Stop}
 use Rattle.turns.specs.declared.Stop.TheVariants.{Wait as Wait', Pause, Refused as Refused'}
-use Rattle.turns.specs.declared.Turn.{Turn}
-use Rattle.turns.specs.declared.Turn.TheVariants.{Pass, Halt}
 use Rattle.walk.specs.State.{fresh, good_state}
 use Rattle.walk.specs.Walk.{turn_of, next_of, stopped, more, bad_stop, on_turn, walk_of}
 use Rattle.walk.specs.declared.State.{State}
@@ -32,7 +30,7 @@ use Rattle.walk.proofs.KeptLaws.{good_kept}
 use Rattle.lines.specs.View.{View, line_of, behind_first, first_of, view_of, sort_seen, sorted_of, Lined}
 use Rattle.lines.specs.declared.Sorted.{Sorted}
 use Rattle.lines.specs.declared.Unshown.TheVariants.{Wait, Refused}
-use Rattle.std.specs.Prelude.{Err}
+use Rattle.std.specs.Prelude.{Result, Ok, Err}
 use Rattle.lines.proofs.LinedLaws.{lined}
 
 -- what is found in the first record's body
@@ -40,15 +38,15 @@ abbrev pub first_body : List ℕ → Verdict
 first_body bs = body_of image 0 zero_plan 0 (take 720 bs)
 
 -- as the code reads it
-body_is : (bs : List ℕ) → first_body bs ≡ (first_of' image (take 720 bs)).verdict
+body_is : (bs : List ℕ) → first_of' image (take 720 bs) ≡ named_by (first_body bs) (plan_of image (take 720 bs))
 unfolding body_of body_tests image_record first_tests first_of'
 body_is bs = refl
 
 -- its turn, open, in the order of the page
 turn_is : (bs : List ℕ) → turn_of (fresh image) bs false
-    ≡ pick (ltb (length bs) 12) (Halt (Wait' (12 - length bs)))
+    ≡ pick (ltb (length bs) 12) (Err (Wait' (12 - length bs)))
     (on_fine (header_of 1 (first_codes image) 720 bs) 1 0
-    (pick (ltb (length bs) 720) (Halt (Wait' (720 - length bs))) (on_fine (first_body bs) 1 0 Pass)))
+    (pick (ltb (length bs) 720) (Err (Wait' (720 - length bs))) (on_fine (first_body bs) 1 0 (Ok tt))))
 unfolding judge_of short_of spot_of first_length codes_of total_of sum_of run_counts
 turn_is bs = refl
 
@@ -65,19 +63,19 @@ module _ (bs : List ℕ) where
   unfolding walk_of spot_of first_length behind
   walk_is t e = rw (fresh_good image (omega arith) (omega arith), e)
 
-  halted : (x : Stop) → turn_of (fresh image) bs false ≡ Halt x → first_of bs ≡ stopped (fresh image) x
-  halted x e = walk_is (Halt x) e
+  halted : (x : Stop) → turn_of (fresh image) bs false ≡ Err x → first_of bs ≡ stopped (fresh image) x
+  halted x e = walk_is (Err x) e
 
   module _ (k : ℕ) where
-    view_halted : (x : Stop) → turn_of (fresh image) bs false ≡ Halt x → sorted_of bs k ≡ record { sort = 0; view = behind_first x (line_of zero_plan k bs) }
+    view_halted : (x : Stop) → turn_of (fresh image) bs false ≡ Err x → sorted_of bs k ≡ record { sort = 0; view = behind_first x (line_of zero_plan k bs) }
     unfolding view_of sort_seen
     view_halted x e = ap (λ (w : Walked). record { sort = w.state.plan.sort; view = behind_first w.stop (line_of w.state.plan k bs) }) (halted x e)
 
   -- a first record that passes: the state behind it is good, and has the plan that it names
-  module _ (e : turn_of (fresh image) bs false ≡ Pass) where
+  module _ (e : turn_of (fresh image) bs false ≡ Ok tt) where
     state_is : (first_of bs).state ≡ behind
     unfolding walk_of
-    state_is = ap (λ (w : Walked). w.state) (walk_is Pass e) ∙ go (good_state behind)
+    state_is = ap (λ (w : Walked). w.state) (walk_is (Ok tt) e) ∙ go (good_state behind)
       where
         go : (b : Bool) → (pick b (stopped behind Pause) (stopped behind bad_stop)).state ≡ behind
         go true = refl
@@ -88,7 +86,7 @@ module _ (bs : List ℕ) where
 
     stop_is : (first_of bs).stop ≡ Pause
     unfolding walk_of
-    stop_is = ap (λ (w : Walked). w.stop) (walk_is Pass e) ∙ rw good
+    stop_is = ap (λ (w : Walked). w.stop) (walk_is (Ok tt) e) ∙ rw good
 
     plan_is : (first_of bs).state.plan ≡ plan_of image (take 720 bs)
     unfolding next_of behind spot_of first_length
@@ -109,36 +107,49 @@ module _ (bs : List ℕ) where
   view_short k h = view_halted bs k (Wait' (12 - length bs)) (turn_is bs ∙ rw (lt-ltb (length bs) 12 h))
 
   module _ (twelve : 12 ≤ length bs) where
-    pub view_header : (k n at : ℕ) → header_of 1 (first_codes image) 720 bs ≡ Fault n at
-        → sorted_of bs k ≡ record { sort = 0; view = Err (Refused (record { number = n; «record» = 1; place = at })) }
-    view_header k n at q =
-        view_halted bs k (Refused' (record { number = n; «record» = 1; place = 0 + at })) (turn_is bs ∙ rw (le-ltb (length bs) 12 twelve, q))
-        ∙ ap (λ (m : ℕ). record { sort = 0; view = Err (Refused (record { number = n; «record» = 1; place = m })) }) (zero-add at)
+    -- where a part of the first record's turn finds a fault, the view is that refusal of record 1, which starts at 0
+    faulted : (k : ℕ) (x : Refusal) → turn_of (fresh image) bs false ≡ Err (Refused' (record { number = x.number; «record» = 1; place = 0 + x.place }))
+        → sorted_of bs k ≡ record { sort = 0; view = Err (Refused (record { number = x.number; «record» = 1; place = x.place })) }
+    faulted k x e =
+        view_halted bs k _ e
+        ∙ ap (λ (m : ℕ). record { sort = 0; view = Err (Refused (record { number = x.number; «record» = 1; place = m })) }) (zero-add x.place)
 
-    module _ (head : header_of 1 (first_codes image) 720 bs ≡ Fine) where
+    pub view_header : (k : ℕ) (x : Refusal) → header_of 1 (first_codes image) 720 bs ≡ Err x
+        → sorted_of bs k ≡ record { sort = 0; view = Err (Refused (record { number = x.number; «record» = 1; place = x.place })) }
+    view_header k x q = faulted k x (turn_is bs ∙ rw (le-ltb (length bs) 12 twelve, q))
+
+    module _ (head : header_of 1 (first_codes image) 720 bs ≡ Ok tt) where
       pub view_cut : (k : ℕ) → length bs < 720 → sorted_of bs k ≡ record { sort = 0; view = Err (Wait (720 - length bs)) }
       view_cut k h = view_halted bs k (Wait' (720 - length bs)) (turn_is bs ∙ rw (le-ltb (length bs) 12 twelve, head, lt-ltb (length bs) 720 h))
 
       module _ (whole : 720 ≤ length bs) where
-        body_turn : (v : Verdict) → first_body bs ≡ v → turn_of (fresh image) bs false ≡ on_fine v 1 0 Pass
+        body_turn : (v : Verdict) → first_body bs ≡ v → turn_of (fresh image) bs false ≡ on_fine v 1 0 (Ok tt)
         body_turn v q = turn_is bs ∙ rw (le-ltb (length bs) 12 twelve, head, le-ltb (length bs) 720 whole, q)
 
-        pub view_fault : (k n at : ℕ) → (first_of' image (take 720 bs)).verdict ≡ Fault n at
-            → sorted_of bs k ≡ record { sort = 0; view = Err (Refused (record { number = n; «record» = 1; place = at })) }
-        view_fault k n at q =
-            view_halted bs k (Refused' (record { number = n; «record» = 1; place = 0 + at })) (body_turn (Fault n at) (body_is bs ∙ q))
-            ∙ ap (λ (m : ℕ). record { sort = 0; view = Err (Refused (record { number = n; «record» = 1; place = m })) }) (zero-add at)
+        -- what the first record names is what its body's tests leave of the plan that its numbers make
+        read : (y : Result Plan Refusal) → first_of' image (take 720 bs) ≡ y → named_by (first_body bs) (plan_of image (take 720 bs)) ≡ y
+        read y q = sym (body_is bs) ∙ q
 
-        module _ (fine : (first_of' image (take 720 bs)).verdict ≡ Fine) where
-          passes : turn_of (fresh image) bs false ≡ Pass
-          passes = body_turn Fine (body_is bs ∙ fine)
+        pub view_fault : (k : ℕ) (x : Refusal) → first_of' image (take 720 bs) ≡ Err x
+            → sorted_of bs k ≡ record { sort = 0; view = Err (Refused (record { number = x.number; «record» = 1; place = x.place })) }
+        view_fault k x q = go (first_body bs) refl (read (Err x) q)
+          where
+            go : (v : Verdict) → first_body bs ≡ v → named_by v (plan_of image (take 720 bs)) ≡ Err x
+                → sorted_of bs k ≡ record { sort = 0; view = Err (Refused (record { number = x.number; «record» = 1; place = x.place })) }
+            go (Ok u) e n = cc
+            go (Err y) e n = faulted k x (body_turn (Err x) (let same : first_body bs ≡ Err x = cc in same))
 
-          named : (first_of' image (take 720 bs)).plan ≡ plan_of image (take 720 bs)
-          unfolding first_of'
-          named = ap (λ (v : Verdict). plan_by v (plan_of image (take 720 bs))) fine
+        module _ (p : Plan) (named : first_of' image (take 720 bs) ≡ Ok p) where
+          passes : (turn_of (fresh image) bs false ≡ Ok tt) × (plan_of image (take 720 bs) ≡ p)
+          passes = go (first_body bs) refl (read (Ok p) named)
+            where
+              go : (v : Verdict) → first_body bs ≡ v → named_by v (plan_of image (take 720 bs)) ≡ Ok p
+                  → (turn_of (fresh image) bs false ≡ Ok tt) × (plan_of image (take 720 bs) ≡ p)
+              go (Ok u) e n = (body_turn (Ok tt) e, cc)
+              go (Err y) e n = cc
 
-          pub fine_lined : Lined (first_of' image (take 720 bs)).plan
-          fine_lined = subst (λ (p : Plan). Lined p) (sym named) (passed_lined bs passes)
+          pub fine_lined : Lined p
+          fine_lined = subst (λ (q : Plan). Lined q) passes.1 (passed_lined bs passes.0)
 
-          pub fine_view : (k : ℕ) → sorted_of bs k ≡ under_plan (first_of' image (take 720 bs)).plan k bs
-          fine_view k = passed_view bs passes k ∙ ap (λ (p : Plan). under_plan p k bs) (sym named)
+          pub fine_view : (k : ℕ) → sorted_of bs k ≡ under_plan p k bs
+          fine_view k = passed_view bs passes.0 k ∙ ap (λ (q : Plan). under_plan q k bs) passes.1

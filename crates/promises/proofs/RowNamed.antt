@@ -27,7 +27,7 @@ module _ (bs : List ℕ) (k : ℕ) (p : Plan) (row : List ℕ) (t : Stands bs k 
   -- 23 where the samples are no counts, and the row stays
   pub wrong_sort : (p.sort ≡ 0 → ⊥) → (copied_of bs k (length row) ≡ Err (unshown.Refused (bare_refusal 23))) × (row_of bs k row ≡ row)
   wrong_sort n =
-      let q = copy_sort bs k row (sorted_of bs k) refl _ _ _ (stands_shown bs k p t) (λ e. n (sym (sort_seen_lem bs p t.first) ∙ e)) in (sym q.0, sym q.1)
+      let q = copy_sort bs k row (sorted_of bs k) refl _ (stands_shown bs k p t) (λ e. n (sym (sort_seen_lem bs p t.first) ∙ e)) in (sym q.0, sym q.1)
 
   module _ (counts : p.sort ≡ 0) where
     two : bytes_of p ≡ 2
@@ -46,13 +46,13 @@ module _ (bs : List ℕ) (k : ℕ) (p : Plan) (row : List ℕ) (t : Stands bs k 
         → (copied_of bs k (length row) ≡ Ok (data_count (line_record p k bs)))
         × (row_of bs k row ≡ samples (data_count (line_record p k bs)) (data_pixels p (line_record p k bs)) ++ drop (data_count (line_record p k bs)) row)
     row_named h =
-        let q = copy_done bs k row (sorted_of bs k) refl _ _ _ (stands_shown bs k p t) seen_counts h (data_pixels p (line_record p k bs)) pixels_are in
+        let q = copy_done bs k row (sorted_of bs k) refl _ (stands_shown bs k p t) seen_counts h (data_pixels p (line_record p k bs)) pixels_are in
         (sym q.0, sym q.1)
 
     -- 15 where the row is shorter than the line's data pixels, and it stays
     pub short_row : length row < data_count (line_record p k bs)
         → (copied_of bs k (length row) ≡ Err (unshown.Refused (bare_refusal 15))) × (row_of bs k row ≡ row)
-    short_row h = let q = copy_short bs k row (sorted_of bs k) refl _ _ _ (stands_shown bs k p t) seen_counts h in (sym q.0, sym q.1)
+    short_row h = let q = copy_short bs k row (sorted_of bs k) refl _ (stands_shown bs k p t) seen_counts h in (sym q.0, sym q.1)
 
 sample_is : (px : List ℕ) (j : ℕ) → two_at px (2 * (0 + j)) ≡ sample px j
 unfolding two_at
