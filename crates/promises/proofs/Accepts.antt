@@ -10,6 +10,7 @@ use native.Mathlib.Numerals.{add-one}
 use lib.ListN.{length, take, drop, length-append, take-append-drop, drop_of_length-le, length-drop}
 use lib.Seq.{drop-cons, length-take-le, take_at, drop_at}
 use borrow.Author.Tests.{le-leb}
+use Rattle.std.specs.Prelude.{Ok, Err}
 use Rattle.words.specs.Tests.{within_of}
 use Rattle.words.proofs.Laws.{both_make, within_true}
 use Rattle.plan.specs.Tables.{rows}
@@ -35,7 +36,6 @@ use Rattle.promises.proofs.FirstIs.{first_is, first_names, Fault_free}
 use Rattle.promises.proofs.AnyEdition.{first_size, same_promised}
 use Rattle.promises.proofs.LaterIs.{due, due_at, later_is, promised_length}
 use Rattle.promises.proofs.Least.{spot_least, first_least}
-use Rattle.std.specs.Prelude.{Ok, Err}
 
 none_left : (b : List ℕ) → length b ≡ 0 → b ≡ []
 none_left [] e = refl

@@ -24,7 +24,6 @@ use Rattle.walk.specs.State.{fresh, good_state}
 use Rattle.headers.specs.Header.{header_of, header_tests, codes_are}
 use Rattle.turns.specs.Turn.{judge_of, ended_of, short_of}
 use Rattle.walk.specs.Walk.{walk_of, next_of, bad_stop}
-use Rattle.turns.specs.declared.Stop.{Stop}
 use Rattle.turns.specs.declared.Stop.TheVariants.{Complete}
 use Rattle.walk.specs.declared.Walked.{Walked}
 use Rattle.promises.specs.Rules.{image, trailer}

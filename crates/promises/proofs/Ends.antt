@@ -10,7 +10,7 @@ use lib.Dec.{eqb, leb}
 use lib.ListN.{length, take, drop, length-append, get_or-append}
 use lib.Seq.{take_at, drop-drop, drop_at, drop-append-add, length-take-le}
 use borrow.Author.Tests.{eqb-true, ltb-true, ltb-false}
-use Rattle.words.specs.Answer.{refusal_at}
+use Rattle.std.specs.Prelude.{Ok, Err}
 use Rattle.words.specs.Tests.{pick}
 use Rattle.words.specs.Words.{two_at, four_at, place_of}
 use Rattle.plan.specs.Plan.{total_of, spot_of}
@@ -37,7 +37,6 @@ use Rattle.promises.proofs.Pieces.{used_within}
 use Rattle.promises.proofs.Starts.{start_advances}
 use Rattle.promises.proofs.Own.{reached}
 use Rattle.promises.proofs.Arriving.{arriving_any}
-use Rattle.std.specs.Prelude.{Ok, Err}
 
 -- a header that has no fault names the due length
 header_length : (o : ℕ) (c : Codes) (long : ℕ) (b : List ℕ) → header_of o c long b ≡ Ok tt → four_at b 8 ≡ long

@@ -8,6 +8,7 @@ use mathlib.Core.Bool.{Bool, true, false}
 use native.Mathlib.Omega.{arith}
 use lib.IntN.{pos}
 use lib.ListN.{length}
+use Rattle.std.specs.Prelude.{Ok, Err}
 use Rattle.words.specs.Answer.{Answer, waiting, paused, complete, refused, shown, copied, agrees}
 use Rattle.words.specs.declared.Refusal.{Refusal}
 use Rattle.plan.specs.Plan.{total_of}
@@ -24,6 +25,7 @@ use Rattle.copies.specs.Row.{copied_of}
 use Rattle.copies.specs.Said.{copied_as}
 use Rattle.sets.specs.Set.{set_of, Agreement}
 use Rattle.sets.specs.Said.{agreement_as}
+use Rattle.lines.specs.declared.Unshown.TheVariants as unshown
 use Rattle.promises.specs.Rules.{Kind, volume, kind_number}
 use Rattle.promises.specs.Newest.{Accepted}
 use Rattle.promises.specs.Arriving.{Own, Starts, AtRecordEnd}
@@ -34,8 +36,6 @@ use Rattle.promises.proofs.Ends.{arriving}
 use Rattle.promises.proofs.LineNamed.{line_named}
 use Rattle.promises.proofs.RowNamed.{sample_named}
 use Rattle.promises.proofs.SetAgrees.{set_agrees}
-use Rattle.lines.specs.declared.Unshown.TheVariants as unshown
-use Rattle.std.specs.Prelude.{Ok, Err}
 
 -- ---- each word is one case
 

@@ -11,6 +11,7 @@ use lib.Dec.{eqb}
 use lib.ListN.{length, take, drop}
 use lib.Seq.{length-take-le, drop_at, take-length, take-take, take-add}
 use borrow.Author.Tests.{eqb-true, eqb-false}
+use Rattle.std.specs.Prelude.{Ok}
 use Rattle.words.specs.Tests.{pick}
 use Rattle.words.proofs.Laws.{cases, within_true}
 use Rattle.plan.specs.Tables.{rows}
@@ -30,6 +31,7 @@ use Rattle.walk.specs.declared.Walked.{Walked}
 use Rattle.walk.proofs.GoodLaws.{good_known, good_later}
 use Rattle.turns.proofs.TurnLaws.{pass_parts, pass_long, pass_going, judge_body}
 use Rattle.walk.proofs.LoopLaws.{walk_pass, more_more, more_none}
+use Rattle.verdicts.specs.Tests.{Verdict}
 use Rattle.promises.specs.Rules.{Kind, kind_number}
 use Rattle.promises.specs.Pieces.{used_of}
 use Rattle.promises.specs.Arriving.{Own, begun, again}
@@ -40,8 +42,6 @@ use Rattle.walk.proofs.KeptLaws.{good_kept}
 use Rattle.promises.proofs.Parts.{header_take}
 use Rattle.promises.proofs.WitnessLater.{later_twelve}
 use Rattle.promises.proofs.Completed.{named_counts, named_lengths}
-use Rattle.verdicts.specs.Tests.{Verdict}
-use Rattle.std.specs.Prelude.{Ok}
 
 -- a plan's lists have as many rows as the code's arrays
 abbrev pub Rows : State → Type 0

@@ -10,6 +10,7 @@ use lib.Dec.{eqb}
 use lib.ListN.{length, take, drop, get_or, replicate, length-append, length-replicate, length-drop}
 use lib.Seq.{take_at, drop-append-add}
 use borrow.Author.Tests.{eq-eqb, eqb-true}
+use Rattle.std.specs.Prelude.{Ok, Err}
 use Rattle.words.specs.Tests.{pick}
 use Rattle.words.specs.Words.{place_of}
 use Rattle.words.specs.declared.Refusal.{Refusal}
@@ -42,7 +43,6 @@ use Rattle.promises.proofs.Parts.{number_reads}
 use Rattle.promises.proofs.PlanNamed.{plan_kept}
 use Rattle.promises.proofs.Records.{accepted_complete_records}
 use Rattle.promises.proofs.Uniform.{At, uniform}
-use Rattle.std.specs.Prelude.{Ok, Err}
 
 -- ---- the comparison
 

@@ -10,7 +10,7 @@ use lib.Dec.{eqb, leb, ltb}
 use lib.ListN.{length, take, drop, length-append, get_or-append}
 use lib.Seq.{take-append-le, drop-append-le}
 use borrow.Author.Tests.{eq-eqb, ne_eqb, leb-true, leb-false, ltb-true, ltb-false}
-use Rattle.words.specs.Answer.{refusal_at}
+use Rattle.std.specs.Prelude.{Ok, Err}
 use Rattle.words.specs.Tests.{pick}
 use Rattle.words.specs.Words.{byte_at, two_at, four_at}
 use Rattle.words.specs.declared.Refusal.{Refusal}
@@ -30,7 +30,6 @@ use Rattle.turns.specs.declared.Stop.{Stop}
 use Rattle.turns.specs.declared.Stop.TheVariants.{Wait, Pause, Complete, Refused}
 use Rattle.turns.proofs.TurnLaws.{pass_long, judge_ended, judge_twelve, judge_fault, judge_part, judge_body}
 use Rattle.verdicts.specs.Tests.{Verdict}
-use Rattle.std.specs.Prelude.{Ok, Err}
 
 -- ---- the stops of a turn
 

@@ -9,6 +9,7 @@ use native.Mathlib.Omega.{arith}
 use lib.Dec.{ltb, eqb}
 use lib.ListN.{length}
 use borrow.Author.Tests.{ltb-true, ltb-false, lt-ltb, eqb-true, eqb-false, eq-eqb, ne_eqb}
+use Rattle.std.specs.Prelude.{Result, Ok, Err, Some, None}
 use Rattle.words.specs.Tests.{pick, within_of}
 use Rattle.words.specs.Words.{place_of}
 use Rattle.words.specs.Answer.{bare_refusal, refusal_at, refused_as}
@@ -33,6 +34,8 @@ use Rattle.walk.specs.declared.Walked.{Walked}
 use Rattle.lines.specs.View.{View, shown_view, view_of, sort_seen}
 use Rattle.copies.specs.Row.{Copied, copied_by, copied_of}
 use Rattle.copies.specs.Said.{copied_as}
+use Rattle.lines.specs.declared.Unshown.{Unshown}
+use Rattle.lines.specs.declared.Unshown.TheVariants as unshown
 use Rattle.promises.specs.Newest.{Says}
 use Rattle.promises.specs.Shown.{line_record, data_count}
 use Rattle.promises.proofs.Parts.{reading, by_means}
@@ -46,9 +49,6 @@ use Rattle.refusals.specs.Questions.{BeginRefuses, StateRefuses, CopyRefuses, so
 use Rattle.refusals.specs.Questions as questions
 use Rattle.refusals.proofs.Said as said
 use Rattle.refusals.proofs.Viewed.{view_to, view_from}
-use Rattle.std.specs.Prelude.{Result, Ok, Err, Some, None}
-use Rattle.lines.specs.declared.Unshown.{Unshown}
-use Rattle.lines.specs.declared.Unshown.TheVariants as unshown
 
 -- ---- 1: to begin
 

@@ -11,6 +11,7 @@ use lib.IntN.{pos}
 use lib.ListN.{length}
 use lib.Seq.{slice}
 use borrow.Author.Tests.{eqb-true, eq-eqb, leb-true, le-leb}
+use Rattle.std.specs.Prelude.{Ok}
 use Rattle.words.specs.Tests.{both_of}
 use Rattle.words.specs.Words.{four_at, place_of}
 use Rattle.words.proofs.Laws.{both_l, both_r}
@@ -44,7 +45,6 @@ use Rattle.refusals.specs.Refusals.{nothing, agreement}
 use Rattle.refusals.specs.Refusals as rules
 use Rattle.refusals.proofs.Finds.{Finds, finds_none, finds_then, first_then, finds_each, rules_of, Every, Alike, alike_self, alike_behind, finds_alike}
 use Rattle.refusals.proofs.PartFinds.{exact, text_finds, listed_finds, number_finds, pair_finds}
-use Rattle.std.specs.Prelude.{Ok}
 
 -- ---- tables
 

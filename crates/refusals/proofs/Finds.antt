@@ -5,6 +5,7 @@ use mathlib.Core.Logic.{◌↔◌, inl, inr}
 use mathlib.Core.List.{List, [], ◌∷◌, ◌++◌}
 use mathlib.Core.Bool.{Bool, true, false}
 use native.Mathlib.Omega.{arith}
+use Rattle.std.specs.Prelude.{Ok, Err}
 use Rattle.words.specs.Answer.{refusal_at}
 use Rattle.words.specs.Tests.{pick}
 use Rattle.words.specs.Words.{place_of}
@@ -16,7 +17,6 @@ use Rattle.bad_byte.specs.BadByte.{BadAt, PointsAt, bad, empty}
 use Rattle.bad_byte.proofs.Named.{bad_one, bad_never}
 use Rattle.fields.specs.Field.{field_bytes}
 use Rattle.refusals.specs.Refusals.{Mark, at_byte, in_field, Points, Rule, AllHold, FirstWrong}
-use Rattle.std.specs.Prelude.{Ok, Err}
 
 -- ---- a mark points at one place
 

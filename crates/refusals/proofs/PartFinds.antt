@@ -11,6 +11,7 @@ use lib.Dec.{eqb}
 use lib.IntN.{ℤ, pos, negsuc}
 use lib.ListN.{length}
 use borrow.Author.Tests.{eqb-true, eqb-false, eq-eqb}
+use Rattle.std.specs.Prelude.{Ok, Err, Some, None}
 use Rattle.words.specs.Answer.{refusal_at}
 use Rattle.words.specs.Tests.{pick, within_of}
 use Rattle.words.specs.Words.{four_at, place_of}
@@ -37,7 +38,6 @@ use Rattle.promises.specs.Newest.{Says, Numbered}
 use Rattle.promises.proofs.Parts.{CodedBy, codes_to, codes_from, text_is, reading, by_means, no_exponent}
 use Rattle.refusals.specs.Refusals.{in_field, Points, Rule, rule, unread, FirstWrong, header, text, SomeNumber, number, listed, Counts, pair}
 use Rattle.refusals.proofs.Finds.{Finds, finds_none, finds_test}
-use Rattle.std.specs.Prelude.{Ok, Err, Some, None}
 
 -- ---- texts and headers
 

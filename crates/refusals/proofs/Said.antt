@@ -3,6 +3,7 @@ use Prim.Native.Nat.{ℕ}
 use mathlib.Core.Path.{◌≡◌, ap, ap₂, ◌∙◌}
 use native.Mathlib.Omega.{arith}
 use lib.IntN.{pos}
+use Rattle.std.specs.Prelude.{Result, Ok, Err}
 use Rattle.words.specs.Answer.{Answer, refused, refused_as}
 use Rattle.words.specs.declared.Refusal.{Refusal}
 use Rattle.fields.specs.Field.{field_as}
@@ -18,7 +19,6 @@ use Rattle.copies.specs.Row.{Copied}
 use Rattle.copies.specs.Said.{copied_as}
 use Rattle.sets.specs.Set.{Agreement}
 use Rattle.sets.specs.Said.{agreement_as}
-use Rattle.std.specs.Prelude.{Result, Ok, Err}
 use Rattle.lines.specs.declared.Unshown.{Unshown}
 use Rattle.lines.specs.declared.Unshown.TheVariants as unshown
 
