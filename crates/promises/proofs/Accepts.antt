@@ -11,6 +11,7 @@ use lib.ListN.{length, take, drop, length-append, take-append-drop, drop_of_leng
 use lib.Seq.{drop-cons, length-take-le, take_at, drop_at}
 use borrow.Author.Tests.{le-leb}
 use Rattle.std.specs.Prelude.{Ok, Err}
+use Rattle.std.proofs.lemmas.List.{nil_from_length}
 use Rattle.words.specs.Tests.{within_of}
 use Rattle.words.proofs.Laws.{both_make, within_true}
 use Rattle.plan.specs.Tables.{rows}
@@ -36,10 +37,6 @@ use Rattle.promises.proofs.FirstIs.{first_is, first_names, Fault_free}
 use Rattle.promises.proofs.AnyEdition.{first_size, same_promised}
 use Rattle.promises.proofs.LaterIs.{due, due_at, later_is, promised_length}
 use Rattle.promises.proofs.Least.{spot_least, first_least}
-
-none_left : (b : List ℕ) → length b ≡ 0 → b ≡ []
-none_left [] e = refl
-none_left (x ∷ xs) e = absurd (omega arith)
 
 kind_known : (kind : Kind) → within_of 1 (kind_number kind) 4 ≡ true
 kind_known volume = refl
@@ -86,7 +83,7 @@ module _ (kind : Kind) (p : Plan) (good : plan_good (kind_number kind) p ≡ tru
           let c = (complete_is (kind_number kind) p (suc k) (due_at kind p k) bs).0 q in
           record {
             records = [];
-            are = sym (none_left bs c.1);
+            are = sym (nil_from_length bs c.1);
             follow = subst (λ (ds : List Due). Follow (suc k) ds []) (sym (all_passed k c.0)) tt;
           }
       go more (later q w) =

@@ -5,7 +5,7 @@ use mathlib.Core.Path.{◌≡◌, refl, sym, ap, ap₂, ◌∙◌}
 use mathlib.Core.List.{List, ◌++◌, append_assoc}
 use mathlib.Core.Bool.{Bool, true, false}
 use mathlib.Core.Logic.{⊎_elim}
-use native.Mathlib.Nat.{zero-add}
+use native.Mathlib.Nat.{zero-add, pos_of_ne-zero}
 use native.Mathlib.Omega.{arith}
 use lib.Dec.{eqb}
 use lib.ListN.{length, take, drop}
@@ -77,12 +77,8 @@ twelve st g r h =
     (λ z.
     let n = eqb-false st.passed 0 z in
     let q = good_later st g n in
-    later_twelve st.kind st.plan st.passed k.0 k.1 q.0 r.0 r.1 (one_up st.passed n) h)
+    later_twelve st.kind st.plan st.passed k.0 k.1 q.0 r.0 r.1 (pos_of_ne-zero n) h)
     (cases (eqb st.passed 0))
-  where
-    one_up : (m : ℕ) → (m ≡ 0 → ⊥) → 1 ≤ m
-    one_up zero n = absurd (n refl)
-    one_up (suc m) n = omega arith
 
 -- a record that passed passes open on its own bytes alone
 pub pass_alone : (st : State) (b : List ℕ) (c : Bool) → good_state st ≡ true → Rows st → turn_of st b c ≡ Ok tt
