@@ -74,7 +74,7 @@ module _ (kind : Kind) (p : Plan) (good : plan_good (kind_number kind) p ≡ tru
   walk_to : (n k : ℕ) (bs : List ℕ) → suc k ≤ total_of (kind_number kind) p → (walk_of n (behind kind p k) bs true).stop ≡ Complete → Rest kind p k bs
   walk_to zero k bs h e =
       absurd (let q : Pause ≡ Complete = sym (ap (λ (w : Walked). w.stop) (walk_pause (behind kind p k) bs true (good_behind k h))) ∙ e in
-      let z : ◌≡◌ {A = ℕ} 0 1 = cc in omega arith)
+      cc)
   walk_to (suc n) k bs h e = go (walk_to n (suc k)) ((ends_is (behind kind p k) bs n (good_behind k h)).0 e)
     where
       go : ((bs : List ℕ) → suc (suc k) ≤ total_of (kind_number kind) p → (walk_of n (behind kind p (suc k)) bs true).stop ≡ Complete → Rest kind p (suc k) bs)
@@ -193,7 +193,7 @@ pub complete_accepted : (kind : Kind) (bs : List ℕ) (n : ℕ) → (walk_of n (
 unfolding spot_of
 complete_accepted kind bs zero e =
     absurd (let q : Pause ≡ Complete = sym (ap (λ (w : Walked). w.stop) (walk_pause (fresh (kind_number kind)) bs true (good_fresh kind))) ∙ e in
-    let z : ◌≡◌ {A = ℕ} 0 1 = cc in omega arith)
+    cc)
 complete_accepted kind bs (suc n) e = go ((ends_is (fresh (kind_number kind)) bs n (good_fresh kind)).0 e)
   where
     go : Ends (fresh (kind_number kind)) bs n (good_fresh kind) → Accepted kind bs

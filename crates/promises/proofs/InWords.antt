@@ -5,7 +5,6 @@ use mathlib.Core.Path.{◌≡◌, refl, ap, ap₂, ◌∙◌}
 use mathlib.Core.Logic.{◌↔◌}
 use mathlib.Core.List.{List, [], ◌∷◌, ◌++◌}
 use mathlib.Core.Bool.{Bool, true, false}
-use native.Mathlib.Omega.{arith}
 use lib.IntN.{pos}
 use lib.ListN.{length}
 use Rattle.std.specs.Prelude.{Ok, Err}
@@ -41,21 +40,21 @@ use Rattle.promises.proofs.SetAgrees.{set_agrees}
 
 waiting_is : (x : Stop) → (stop_as x).word ≡ waiting → (n : ℕ) × (x ≡ Wait n)
 waiting_is (Wait n) e = (n, refl)
-waiting_is Pause e = absurd (let z : ◌≡◌ {A = ℕ} 0 1 = cc in omega arith)
-waiting_is Complete e = absurd (let z : ◌≡◌ {A = ℕ} 0 1 = cc in omega arith)
-waiting_is (Refused r) e = absurd (let z : ◌≡◌ {A = ℕ} 0 1 = cc in omega arith)
+waiting_is Pause e = absurd cc
+waiting_is Complete e = absurd cc
+waiting_is (Refused r) e = absurd cc
 
 refused_is : (x : Stop) → (stop_as x).word ≡ refused → (r : Refusal) × (x ≡ Refused r)
-refused_is (Wait n) e = absurd (let z : ◌≡◌ {A = ℕ} 0 1 = cc in omega arith)
-refused_is Pause e = absurd (let z : ◌≡◌ {A = ℕ} 0 1 = cc in omega arith)
-refused_is Complete e = absurd (let z : ◌≡◌ {A = ℕ} 0 1 = cc in omega arith)
+refused_is (Wait n) e = absurd cc
+refused_is Pause e = absurd cc
+refused_is Complete e = absurd cc
 refused_is (Refused r) e = (r, refl)
 
 complete_is : (x : Stop) → (stop_as x).word ≡ complete → x ≡ Complete
-complete_is (Wait n) e = absurd (let z : ◌≡◌ {A = ℕ} 0 1 = cc in omega arith)
-complete_is Pause e = absurd (let z : ◌≡◌ {A = ℕ} 0 1 = cc in omega arith)
+complete_is (Wait n) e = absurd cc
+complete_is Pause e = absurd cc
 complete_is Complete e = refl
-complete_is (Refused r) e = absurd (let z : ◌≡◌ {A = ℕ} 0 1 = cc in omega arith)
+complete_is (Refused r) e = absurd cc
 
 -- the answer that shows a line
 abbrev pub showing : ℕ → ℕ → ℕ → Answer
@@ -68,12 +67,12 @@ shown_is (Ok x) start count left e =
     let b : x.count ≡ count = cc in
     let c : x.left ≡ left = cc in
     ap (λ (i : ℕ). shown_view i x.count x.left) a ∙ ap₂ (λ (i j : ℕ). shown_view start i j) b c
-shown_is (Err (unshown.Wait n)) start count left e = absurd (let w = ap (λ (x : Answer). x.word) e in let z : ◌≡◌ {A = ℕ} 0 1 = cc in omega arith)
-shown_is (Err (unshown.Refused r)) start count left e = absurd (let w = ap (λ (x : Answer). x.word) e in let z : ◌≡◌ {A = ℕ} 0 1 = cc in omega arith)
+shown_is (Err (unshown.Wait n)) start count left e = absurd (let w = ap (λ (x : Answer). x.word) e in cc)
+shown_is (Err (unshown.Refused r)) start count left e = absurd (let w = ap (λ (x : Answer). x.word) e in cc)
 
 agrees_is : (a : Agreement) → (agreement_as a).word ≡ agrees → a ≡ Ok tt
 agrees_is (Ok u) e = refl
-agrees_is (Err r) e = absurd (let z : ◌≡◌ {A = ℕ} 0 1 = cc in omega arith)
+agrees_is (Err r) e = absurd cc
 
 -- ---- demand 2
 

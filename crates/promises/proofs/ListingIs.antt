@@ -117,13 +117,13 @@ Closes st bs row =
     → (row ≡ closing_row (walk_of b st bs true)) ⊎ ((row ≡ TooLong) × (longest < (walk_of b st bs true).state.plan.l))
 
 want≢next : {m : ℕ} {r : Row} → Want m ≡ Next r → ⊥
-want≢next e = let z : ◌≡◌ {A = ℕ} 0 1 = cc in omega arith
+want≢next e = cc
 
 pub want≢last : {m : ℕ} {r : Row} → Want m ≡ Last r → ⊥
-want≢last e = let z : ◌≡◌ {A = ℕ} 0 1 = cc in omega arith
+want≢last e = cc
 
 pub next≢last : {r q : Row} → Next r ≡ Last q → ⊥
-next≢last e = let z : ◌≡◌ {A = ℕ} 0 1 = cc in omega arith
+next≢last e = cc
 
 wanted_same : {m n : ℕ} → Want m ≡ Want n → m ≡ n
 wanted_same e = cc
@@ -466,8 +466,8 @@ refused_alone {input} l r t =
 not_long : (st : State) (x : Stop) → x ≢ Pause → ((n : ℕ) → x ≡ Wait n → ⊥) → closing_by st x ≡ TooLong → ⊥
 not_long st (Wait n) p w e = w n refl
 not_long st Pause p w e = p refl
-not_long st Complete' p w e = let z : ◌≡◌ {A = ℕ} 0 1 = cc in omega arith
-not_long st (Refused' r) p w e = let z : ◌≡◌ {A = ℕ} 0 1 = cc in omega arith
+not_long st Complete' p w e = cc
+not_long st (Refused' r) p w e = cc
 
 -- a state behind its first record, whose lines are too long
 is_long : (st : State) → (st.passed ≡ 0 → ⊥) → longest < st.plan.l → too_long st ≡ true

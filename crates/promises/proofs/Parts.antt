@@ -168,7 +168,7 @@ unfolding exponent_of
 no_exponent (blanks s n) q m e z = sym (ap exponent_of z)
 no_exponent (whole w) q m e z = sym (ap exponent_of z)
 no_exponent (fixed w) q m e z = sym (ap exponent_of z)
-no_exponent (expo w g ds n l) q m e z = absurd (let y : ◌≡◌ {A = ℕ} 0 1 = cc in omega arith)
+no_exponent (expo w g ds n l) q m e z = absurd cc
 
 -- the field at a byte as what is written there: badly written is 6 at its first bad byte
 abbrev pub reading : List ℕ → ℕ → Form → Written → Field

@@ -47,7 +47,7 @@ use Rattle.promises.proofs.Uniform.{At, uniform}
 -- ---- the comparison
 
 refused≢agrees : (r : Refusal) → ◌≡◌ {A = Agreement} (Err r) (Ok tt) → ⊥
-refused≢agrees r e = let z : ◌≡◌ {A = ℕ} 0 1 = cc in omega arith
+refused≢agrees r e = cc
 
 -- every count from pointer p on is the directory's
 compare_to : (p : ℕ) (bs cs : List ℕ) → compare_from p bs cs ≡ Ok tt → (i : ℕ) → i < length cs → get_or cs i 0 ≡ count_of bs (p + i)

@@ -69,7 +69,7 @@ pub record Finds (v : Verdict) (xs : List Rule) : Type 0 where
   pub fault : (y : Refusal) → v ≡ Err y → FirstWrong xs y.number y.place
 
 fine≢fault : (y : Refusal) → ◌≡◌ {A = Verdict} (Ok tt) (Err y) → ⊥
-fine≢fault y e = let z : ◌≡◌ {A = ℕ} 0 1 = cc in omega arith
+fine≢fault y e = cc
 
 -- and the other way
 pub finds_fine : (v : Verdict) (xs : List Rule) → Finds v xs → AllHold xs → v ≡ Ok tt

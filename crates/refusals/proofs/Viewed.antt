@@ -5,7 +5,6 @@ use mathlib.Core.Path.{◌≡◌, refl, sym, ap, ap₂, ◌∙◌, subst}
 use mathlib.Core.Logic.{◌↔◌}
 use mathlib.Core.List.{List, []}
 use mathlib.Core.Bool.{Bool, true, false}
-use native.Mathlib.Omega.{arith}
 use native.Mathlib.Numerals.{add-one}
 use lib.Dec.{ltb}
 use lib.ListN.{length, take, drop}
@@ -54,10 +53,10 @@ refused_same : {x y : Refusal} → ◌≡◌ {A = View} (Err (unshown.Refused x)
 refused_same e = cc
 
 wait≢refused : (n : ℕ) (x : Refusal) → ◌≡◌ {A = View} (Err (unshown.Wait n)) (Err (unshown.Refused x)) → ⊥
-wait≢refused n x e = let z : ◌≡◌ {A = ℕ} 0 1 = cc in omega arith
+wait≢refused n x e = cc
 
 shown≢refused : (a b c : ℕ) (x : Refusal) → ◌≡◌ {A = View} (shown_view a b c) (Err (unshown.Refused x)) → ⊥
-shown≢refused a b c x e = let z : ◌≡◌ {A = ℕ} 0 1 = cc in omega arith
+shown≢refused a b c x e = cc
 
 -- ---- under a plan
 
