@@ -1,19 +1,7 @@
--- The four bytes, each below 256, are what `four_at` reads.
+-- The number that the library reads of the four bytes, high byte first, is the one that `four_at` says.
+use Rattle.std.proofs.Common.{arith}
 use Rattle.words.proofs.Laws.{four_bytes}
-use native.Mathlib.Omega.{arith}
-use Prim.Native.Nat.{◌+◌}
 use Rattle.words.proofs.four_there.Goals as goal
 
-pub returns : goal.returns
-returns c =
-    record {
-      value = four_bytes c.args.b.now c.args.at;
-      upper_bound = omega (
-        arith,
-        c.type_inv.b c.args.at,
-        c.type_inv.b (c.args.at + 1),
-        c.type_inv.b
-            (c.args.at + 2),
-        c.type_inv.b (c.args.at + 3),
-      );
-    }
+pub returns-clause-value : goal.returns-clause-value
+returns-clause-value c = omega (arith, four_bytes c.args.b.now c.args.at, c.from.ensures, c.from_be_bytes.ensures)

@@ -10,12 +10,15 @@ use Rattle.turns.specs.declared.Stop.{Stop}
 use Rattle.walk.specs.Walk.{walk_of, more, stopped}
 use Rattle.walk.specs.State.{good_state}
 use Rattle.plan.specs.declared.Due.{Due}
+use Rattle.plan.specs.declared.Plan.{Plan}
+use Rattle.plan.specs.Plan.{records_most}
+use Rattle.std.proofs.lemmas.Result.{IfOk-at_ok}
 use lib.ListN.{length}
 use native.Mathlib.Nat.{sub-zero}
 use native.Mathlib.Omega.{arith}
 use mathlib.Core.Bool.{true}
 use mathlib.Core.Path.{sym, ap, ◌∙◌}
-use Prim.Native.Nat.{ℕ, ◌+◌, ◌-◌, ◌*◌}
+use Prim.Native.Nat.{ℕ, ◌+◌, ◌-◌, ◌*◌, ◌≤◌}
 use Rattle.walk.proofs.State.walk.Goals as goal
 
 pub returns-then-not-good : goal.returns-then-not-good
@@ -66,7 +69,7 @@ overflow_add-at c = let l = c.loop-n in
     )
 
 pub next-st-requires : goal.next-st-requires
-next-st-requires c = omega (arith, c.judge.ensures.k_le_records_most c.in-Ok.is)
+next-st-requires c = omega (arith, IfOk-at_ok (λ (q : Plan). c.loop-n.st.passed ≤ records_most) c.in-Ok.is c.judge.ensures.k_le_records_most)
 
 pub overflow_add-n : goal.overflow_add-n
 overflow_add-n c = omega (
@@ -140,8 +143,7 @@ overflow_add-st c = let l = c.loop-n in
       arith,
       e,
       c.ahead-c.ensures.small,
-      c.judge.ensures.k_le_records_most
-          c.in-Ok.is,
+      IfOk-at_ok (λ (q : Plan). c.loop-n.st.passed ≤ records_most) c.in-Ok.is c.judge.ensures.k_le_records_most,
     )
 
 pub overflow_add-n-in-loop-n : goal.overflow_add-n-in-loop-n
