@@ -8,7 +8,7 @@ use lib.Dec.{ltb}
 use lib.ListN.{length, take, drop, length-drop, length-take}
 use lib.Seq.{length-take-le}
 use mathlib.Core.Bool.{Bool, true, false, false≢true}
-use borrow.Author.Tests.{lt-ltb, le-ltb, ltb-true, ltb-false}
+use borrow.Author.Tests.{lt-ltb, le-ltb, ltb-false}
 use Rattle.std.proofs.Common.{Some, None, Ok, Err}
 use Rattle.words.specs.Tests.{pick, within_of}
 use Rattle.words.specs.Words.{place_of}
@@ -43,14 +43,6 @@ module _ (b : List ℕ) (n : ℕ) where
   pub inside : within_of 1 n 13 ≡ true → listed_field b n ≡ field_at b (place_of (listed (n - 1)).first) (listed (n - 1)).form
   unfolding listed_field
   inside e = rw e
-
--- the bytes end before the field does, tested without a sum that might wrap
-pub same_test : (l at n : ℕ) → n ≤ l → ltb (l - n) at ≡ ltb l (at + n)
-same_test l at n h = go (ltb (l - n) at) refl
-  where
-    go : (t : Bool) → ltb (l - n) at ≡ t → t ≡ ltb l (at + n)
-    go true e = let q = ltb-true (l - n) at e in sym (lt-ltb l (at + n) (omega (arith, q)))
-    go false e = let q = ltb-false (l - n) at e in sym (le-ltb l (at + n) (omega (arith, q)))
 
 -- a form's field is one of its width and shape
 pub shaped : (b : List ℕ) (at : ℕ) (k : Form) → shaped_at b at (width_of k) (shape_of k) ≡ rough_at b at k
