@@ -45,6 +45,16 @@ module _ {A : Type 0} (a : A) {v : Verdict} where
   pub named_fine : v ≡ Ok tt → Ok a ≡ named_by v a
   named_fine q = rw q
 
+-- and what was found, by what is named
+module _ {A : Type 0} (a : A) where
+  pub fault_found : (v : Verdict) {x : Refusal} → named_by v a ≡ Err x → v ≡ Err x
+  fault_found (Ok u) q = absurd (let z : ◌≡◌ {A = ℕ} 0 1 = cc in omega arith)
+  fault_found (Err y) {x} q = let e : y ≡ x = cc in ap Err e
+
+  pub fine_found : (v : Verdict) {b : A} → named_by v a ≡ Ok b → (v ≡ Ok tt) × (b ≡ a)
+  fine_found (Ok u) {b} q = (refl, cc)
+  fine_found (Err y) q = absurd (let z : ◌≡◌ {A = ℕ} 0 1 = cc in omega arith)
+
 -- the rows of a table from i on, to before another
 module _ {A : Type 0} (g : A → List Test) (xs : List A) (d : A) (i to : ℕ) where
   pub rows_end : to ≤ length xs → to ≤ i → first_fault (each g (slice i to xs)) ≡ Ok tt
