@@ -18,6 +18,7 @@ use words::Refusal;
 pub type Verdict = Result<(), Refusal>;
 
 // The bytes from document 01's byte on are this text.
+#[tactic(auto, using(crate::proofs::TextLaws::steps), unfolding(words::specs::Words::place_of))]
 pub fn text(r: &[u8], byte: usize, t: &[u8]) -> bool
     requires { byte + length t.now < 1000 }
     ensures { result ≡ text_at r.now (place_of byte) t.now }
@@ -95,6 +96,7 @@ pub fn field(r: &[u8], byte: usize, form: Form) -> Field
 // The field of that form at document 01's byte, which must be a number in a range: the number, or the
 // refusal. Its form (6, of a blank field at its last byte), then its range (7, at its first). Where there
 // is no upper end, `most` is the largest number.
+#[tactic(auto, using(fields::proofs::Laws::blank_there))]
 pub fn number(r: &[u8], byte: usize, form: Form, least: u64, most: u64) -> Result<Number, Refusal>
     ensures { result ≡ needed_of (at r.now byte form) (place_of byte) (last_of byte form) least most }
 {
