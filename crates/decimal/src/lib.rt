@@ -111,6 +111,7 @@ fn scaled(x: Option<Signed>, y: Option<Signed>) -> Written
 
 // What the bytes of a field of this shape say whose first byte that is no blank stands at k.
 #[inline(always)]
+#[tactic(auto, unfolding(crate::specs::Scan::number_in))]
 fn number_in(f: &[u8], k: usize, shape: Shape) -> Written
     requires skipped { Skipped f.now 0 (length f.now) k }
     requires k_in_bounds { k < length f.now }

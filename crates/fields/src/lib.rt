@@ -59,6 +59,7 @@ fn short(bytes: &[u8], at: usize, n: usize) -> bool
 // A number of this shape in n bytes at a place. Bytes that end before the field does are refusal 2.
 // It is made anew at each call, so that the compiler knows each form's width and places (docs/SPEED.md).
 #[inline(always)]
+#[tactic(auto, unfolding(crate::specs::Shaped::shaped_at))]
 fn shaped_at(bytes: &[u8], at: usize, n: usize, shape: Shape) -> Field
     requires { Fit shape n }
     ensures { result ≡ shaped_at bytes.now at n shape }
@@ -123,6 +124,7 @@ fn row(first: usize, form: Form) -> Listed
 
 // Row i of the table, from 0: fields 1 to 10 stand in the summary record, 11 to 13 in the map record.
 // It is no array, since one of structs is built anew at each look into it (docs/SPEED.md).
+#[tactic(auto, unfolding(crate::specs::Listed::listed))]
 pub fn listed_row(i: usize) -> Listed
     requires { i < 13 }
     ensures { result ≡ listed i }

@@ -33,13 +33,11 @@ struct Held {
 fn slot_row(i: usize) -> Option<usize>
     ensures { result ≡ slot_row i }
 {
-    if i < 5 {
-        return Some(i);
+    match i {
+        0..=4 => Some(i),
+        6 => Some(5),
+        _ => None,
     }
-    if i == 6 {
-        return Some(5);
-    }
-    None
 }
 
 // Pair i of the descriptor, from 0, by position: slots 1 to 15 from byte 181 on, 12 bytes each, then the

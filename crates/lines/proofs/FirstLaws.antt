@@ -27,8 +27,9 @@ use Rattle.walk.specs.declared.State.{State}
 use Rattle.walk.specs.declared.Walked.{Walked}
 use Rattle.walk.proofs.GoodLaws.{fresh_good}
 use Rattle.walk.proofs.KeptLaws.{good_kept}
-use Rattle.lines.specs.View.{View, line_of, behind_first, first_of, view_of, sort_seen, sorted_of, Lined}
+use Rattle.lines.specs.View.{View, line_of, behind_first, first_of, view_of, sort_seen, sorted_of, Lined, Leads}
 use Rattle.lines.specs.declared.Sorted.{Sorted}
+use Rattle.lines.specs.declared.Unshown.{Unshown}
 use Rattle.lines.specs.declared.Unshown.TheVariants.{Wait, Refused}
 use Rattle.std.specs.Prelude.{Result, Ok, Err}
 use Rattle.lines.proofs.LinedLaws.{lined}
@@ -101,55 +102,53 @@ module _ (bs : List ℕ) where
         ap (λ (x : Stop). record { sort = (first_of bs).state.plan.sort; view = behind_first x (line_of (first_of bs).state.plan k bs) }) stop_is
         ∙ ap (λ (p : Plan). under_plan p k bs) plan_is
 
+-- a refusal of the first record, which starts at 0
+abbrev pub first_refused : Refusal → Unshown
+first_refused x = Refused (record { number = x.number; «record» = 1; place = x.place })
+
+-- what was found in a part of it, in those words
+abbrev pub as_first : {A : Type 0} → Result A Refusal → Result A Unshown
+as_first (Ok a) = Ok a
+as_first (Err x) = Err (first_refused x)
+
+pub fine_first : (v : Verdict) → as_first v ≡ Ok tt → v ≡ Ok tt
+fine_first (Ok u) e = refl
+fine_first (Err x) e = cc
+
 -- the view by the first record's tests, one after the other
 module _ (bs : List ℕ) where
-  pub view_short : (k : ℕ) → length bs < 12 → sorted_of bs k ≡ record { sort = 0; view = Err (Wait (12 - length bs)) }
-  view_short k h = view_halted bs k (Wait' (12 - length bs)) (turn_is bs ∙ rw (lt-ltb (length bs) 12 h))
+  pub view_short : length bs < 12 → Leads bs (Err (Wait (12 - length bs)))
+  view_short h k = view_halted bs k (Wait' (12 - length bs)) (turn_is bs ∙ rw (lt-ltb (length bs) 12 h))
 
   module _ (twelve : 12 ≤ length bs) where
-    -- where a part of the first record's turn finds a fault, the view is that refusal of record 1, which starts at 0
-    faulted : (k : ℕ) (x : Refusal) → turn_of (fresh image) bs false ≡ Err (Refused' (record { number = x.number; «record» = 1; place = 0 + x.place }))
-        → sorted_of bs k ≡ record { sort = 0; view = Err (Refused (record { number = x.number; «record» = 1; place = x.place })) }
-    faulted k x e =
+    -- where a part of the first record's turn finds a fault, every line's view is that refusal of record 1, which starts at 0
+    faulted : (x : Refusal) → turn_of (fresh image) bs false ≡ Err (Refused' (record { number = x.number; «record» = 1; place = 0 + x.place }))
+        → Leads bs (Err (first_refused x))
+    faulted x e k =
         view_halted bs k _ e
         ∙ ap (λ (m : ℕ). record { sort = 0; view = Err (Refused (record { number = x.number; «record» = 1; place = m })) }) (zero-add x.place)
 
-    pub view_header : (k : ℕ) (x : Refusal) → header_of 1 (first_codes image) 720 bs ≡ Err x
-        → sorted_of bs k ≡ record { sort = 0; view = Err (Refused (record { number = x.number; «record» = 1; place = x.place })) }
-    view_header k x q = faulted k x (turn_is bs ∙ rw (le-ltb (length bs) 12 twelve, q))
+    pub view_header : (y : Unshown) → as_first (header_of 1 (first_codes image) 720 bs) ≡ Err y → Leads bs (Err y)
+    view_header y q = go (header_of 1 (first_codes image) 720 bs) refl q
+      where
+        go : (v : Verdict) → header_of 1 (first_codes image) 720 bs ≡ v → as_first v ≡ Err y → Leads bs (Err y)
+        go (Ok u) e q = cc
+        go (Err x) e q =
+            let same : first_refused x ≡ y = cc in
+            subst (λ (z : Unshown). Leads bs (Err z)) same (faulted x (turn_is bs ∙ rw (le-ltb (length bs) 12 twelve, e)))
 
     module _ (head : header_of 1 (first_codes image) 720 bs ≡ Ok tt) where
-      pub view_cut : (k : ℕ) → length bs < 720 → sorted_of bs k ≡ record { sort = 0; view = Err (Wait (720 - length bs)) }
-      view_cut k h = view_halted bs k (Wait' (720 - length bs)) (turn_is bs ∙ rw (le-ltb (length bs) 12 twelve, head, lt-ltb (length bs) 720 h))
+      pub view_cut : length bs < 720 → Leads bs (Err (Wait (720 - length bs)))
+      view_cut h k = view_halted bs k (Wait' (720 - length bs)) (turn_is bs ∙ rw (le-ltb (length bs) 12 twelve, head, lt-ltb (length bs) 720 h))
 
       module _ (whole : 720 ≤ length bs) where
         body_turn : (v : Verdict) → first_body bs ≡ v → turn_of (fresh image) bs false ≡ on_fine v 1 0 (Ok tt)
         body_turn v q = turn_is bs ∙ rw (le-ltb (length bs) 12 twelve, head, le-ltb (length bs) 720 whole, q)
 
-        -- what the first record names is what its body's tests leave of the plan that its numbers make
-        read : (y : Result Plan Refusal) → first_of' image (take 720 bs) ≡ y → named_by (first_body bs) (plan_of image (take 720 bs)) ≡ y
-        read y q = sym (body_is bs) ∙ q
-
-        pub view_fault : (k : ℕ) (x : Refusal) → first_of' image (take 720 bs) ≡ Err x
-            → sorted_of bs k ≡ record { sort = 0; view = Err (Refused (record { number = x.number; «record» = 1; place = x.place })) }
-        view_fault k x q = go (first_body bs) refl (read (Err x) q)
+        -- the plan that its numbers make where its body's tests find nothing, else their first fault
+        pub view_body : Leads bs (as_first (first_of' image (take 720 bs)))
+        view_body = subst (λ (y : Result Plan Refusal). Leads bs (as_first y)) (sym (body_is bs)) (go (first_body bs) refl)
           where
-            go : (v : Verdict) → first_body bs ≡ v → named_by v (plan_of image (take 720 bs)) ≡ Err x
-                → sorted_of bs k ≡ record { sort = 0; view = Err (Refused (record { number = x.number; «record» = 1; place = x.place })) }
-            go (Ok u) e n = cc
-            go (Err y) e n = faulted k x (body_turn (Err x) (let same : first_body bs ≡ Err x = cc in same))
-
-        module _ (p : Plan) (named : first_of' image (take 720 bs) ≡ Ok p) where
-          passes : (turn_of (fresh image) bs false ≡ Ok tt) × (plan_of image (take 720 bs) ≡ p)
-          passes = go (first_body bs) refl (read (Ok p) named)
-            where
-              go : (v : Verdict) → first_body bs ≡ v → named_by v (plan_of image (take 720 bs)) ≡ Ok p
-                  → (turn_of (fresh image) bs false ≡ Ok tt) × (plan_of image (take 720 bs) ≡ p)
-              go (Ok u) e n = (body_turn (Ok tt) e, cc)
-              go (Err y) e n = cc
-
-          pub fine_lined : Lined p
-          fine_lined = subst (λ (q : Plan). Lined q) passes.1 (passed_lined bs passes.0)
-
-          pub fine_view : (k : ℕ) → sorted_of bs k ≡ under_plan p k bs
-          fine_view k = passed_view bs passes.0 k ∙ ap (λ (q : Plan). under_plan q k bs) passes.1
+            go : (v : Verdict) → first_body bs ≡ v → Leads bs (as_first (named_by v (plan_of image (take 720 bs))))
+            go (Ok u) e = let passes = body_turn (Ok tt) e in (passed_lined bs passes, passed_view bs passes)
+            go (Err x) e = faulted x (body_turn (Err x) e)

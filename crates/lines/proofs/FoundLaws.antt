@@ -26,7 +26,7 @@ unfolding header_of
 head_fine ordinal c long b e = all_fine (header_tests ordinal c long b) e
 
 module _ (p : Plan) (k : ℕ) (s : Due) (r : List ℕ) (run : s.run ≡ 1) where
-  body_is : body_of image s.run p k r ≡ first_fault (line_tests p.w k r)
+  pub body_is : body_of image s.run p k r ≡ first_fault (line_tests p.w k r)
   body_is = ap (λ (i : ℕ). body_of image i p k r) run ∙ line_body_lem p k r
 
   pub found_fine : both_of (all_hold (header_tests s.ordinal s.codes s.length r)) (all_hold (line_tests p.w k r)) ≡ true → found_in p k s r ≡ Ok tt

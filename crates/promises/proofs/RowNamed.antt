@@ -9,19 +9,19 @@ use lib.Dec.{ltb}
 use lib.ListN.{length, get_or, take, drop, length-append, length-drop, get_or-append}
 use lib.Seq.{get_or-drop, get_or-append-add}
 use borrow.Author.Tests.{ne_eqb}
+use Rattle.std.specs.Prelude.{Ok, Err}
 use Rattle.words.specs.Words.{two_at}
 use Rattle.words.specs.Answer.{bare_refusal}
 use Rattle.words.specs.Tests.{pick}
 use Rattle.plan.specs.declared.Plan.{Plan}
-use Rattle.lines.specs.View.{view_of, sort_seen, sorted_of, shown_bytes, View, shown_view}
+use Rattle.lines.specs.View.{view_of, sort_seen, sorted_of, shown_bytes, View}
 use Rattle.copies.specs.Row.{samples, copied_by, row_by, copied_of, row_of}
 use Rattle.copies.proofs.RowLaws.{length_samples, sample_at_lem, copy_sort, copy_done, copy_short}
+use Rattle.lines.specs.declared.Unshown.TheVariants as unshown
 use Rattle.promises.specs.Rules.{sort_of}
 use Rattle.promises.specs.Shown.{line_record, Stands, data_count, bytes_of, data_start, data_pixels, sample}
 use Rattle.promises.specs.Demands.{Copies, Keeps, copier}
 use Rattle.promises.proofs.LineNamed.{stands_shown, stands_room, whole_pixels, sort_seen_lem}
-use Rattle.lines.specs.declared.Unshown.TheVariants as unshown
-use Rattle.std.specs.Prelude.{Ok, Err}
 
 module _ (bs : List ℕ) (k : ℕ) (p : Plan) (row : List ℕ) (t : Stands bs k p) where
   -- 23 where the samples are no counts, and the row stays

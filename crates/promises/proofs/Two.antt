@@ -9,7 +9,7 @@ use lib.Dec.{eqb, leb, ltb}
 use lib.ListN.{length, take, drop}
 use lib.Seq.{length-take-le, drop-drop}
 use borrow.Author.Tests.{eqb-true, eqb-false, ne_eqb, leb-true, leb-false, ltb-true, ltb-false}
-use Rattle.words.specs.Answer.{refusal_at}
+use Rattle.std.specs.Prelude.{Ok, Err}
 use Rattle.words.specs.Tests.{pick}
 use Rattle.words.specs.declared.Refusal.{Refusal}
 use Rattle.words.proofs.Laws.{cases, within_true}
@@ -30,6 +30,7 @@ use Rattle.walk.specs.Walk.{turn_of, walk_of}
 use Rattle.walk.specs.declared.State.{State}
 use Rattle.walk.proofs.GoodLaws.{good_known, good_later}
 use Rattle.walk.proofs.TurnLaws.{good_next}
+use Rattle.verdicts.specs.Tests.{Verdict}
 use Rattle.promises.specs.Rules.{Kind, volume, leader, image, trailer, kind_number}
 use Rattle.promises.specs.Pieces.{used_of}
 use Rattle.promises.proofs.BodyIs.{Long}
@@ -37,8 +38,6 @@ use Rattle.promises.proofs.LaterIs.{long_is}
 use Rattle.promises.proofs.Steps.{by_turns}
 use Rattle.promises.proofs.Turns.{pass≢halt, halt_same, refused_same, pause≢refused, wait≢refused, complete≢refused}
 use Rattle.promises.proofs.Own.{Rows, rows_next, twelve}
-use Rattle.verdicts.specs.Tests.{Verdict}
-use Rattle.std.specs.Prelude.{Ok, Err}
 
 -- ---- a record that is due has the length that its fields need
 

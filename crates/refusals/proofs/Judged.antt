@@ -9,7 +9,7 @@ use native.Mathlib.Omega.{arith}
 use lib.Dec.{eqb, ltb}
 use lib.ListN.{length, take}
 use borrow.Author.Tests.{eqb-false, ne_eqb, ltb-true, ltb-false}
-use Rattle.words.specs.Answer.{refusal_at}
+use Rattle.std.specs.Prelude.{Ok, Err}
 use Rattle.words.specs.Tests.{pick}
 use Rattle.words.specs.declared.Refusal.{Refusal}
 use Rattle.words.proofs.Laws.{cases}
@@ -21,11 +21,10 @@ use Rattle.bodies.specs.Bodies.{body_of}
 use Rattle.turns.specs.Turn.{Turn, refused_at, on_fine, judge_of, ended_of, short_of}
 use Rattle.turns.specs.declared.Stop.TheVariants.{Wait, Complete, Refused}
 use Rattle.turns.proofs.TurnLaws.{judge_ended, judge_twelve, judge_fault, judge_part, judge_body}
+use Rattle.verdicts.specs.Tests.{Verdict}
 use Rattle.promises.proofs.Turns.{halt_same, pass≢halt, refused_same, wait≢refused, complete≢refused}
 use Rattle.refusals.specs.Refusals.{Asked, AllHold, header, Wrong, behind, short, head, part, body}
 use Rattle.refusals.proofs.Finds.{Finds, finds_fine, finds_fault}
-use Rattle.verdicts.specs.Tests.{Verdict}
-use Rattle.std.specs.Prelude.{Ok, Err}
 
 -- a refusal by its numbers
 pub same_refusal : (x : Refusal) {o p : ℕ} → x.«record» ≡ o → x.place ≡ p → record { number = x.number; «record» = o; place = p } ≡ x

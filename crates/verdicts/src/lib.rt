@@ -54,20 +54,14 @@ pub fn first_text(r: &[u8]) -> Verdict
 fn whole_in(lo: u64, v: i64, hi: u64) -> bool
     ensures { result ≡ whole_in lo v hi }
 {
-    if v < 0 {
-        return false;
-    }
-    words::within(lo, v as u64, hi)
+    v >= 0 && words::within(lo, v as u64, hi)
 }
 
 // The number that a value says; 0 where it is negative, which no range allows.
 pub fn whole(v: i64) -> u64
     ensures { result ≡ whole_of v }
 {
-    if v < 0 {
-        return 0;
-    }
-    v as u64
+    u64::try_from(v).unwrap_or(0)
 }
 
 // The verdict on a field: its refusal is the fault. A listed field is a value or blank, so this is all

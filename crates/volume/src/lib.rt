@@ -28,13 +28,14 @@ pub fn descriptor(r: &[u8]) -> Result<u64, Refusal>
 fn class(m: u64, k: u64, r: &[u8]) -> Verdict
     ensures { result ≡ first_fault (text_test r.now 65 (class_text m k) ∷ []) }
 {
-    if k == 1 {
-        return verdicts::fixed(r, 65, b"SARL");
-    }
-    if k == m {
-        return verdicts::fixed(r, 65, b"SART");
-    }
-    verdicts::fixed(r, 65, b"IMOP")
+    let text = if k == 1 {
+        b"SARL"
+    } else if k == m {
+        b"SART"
+    } else {
+        b"IMOP"
+    };
+    verdicts::fixed(r, 65, text)
 }
 
 // Pointer k of m: its class, its record count, and its first record length, exactly 720.

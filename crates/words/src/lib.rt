@@ -49,6 +49,7 @@ pub fn byte(b: &[u8], at: usize) -> u64
 }
 
 // The two bytes from a place on as one number, high byte first: 02 01 is 513 (P11).
+#[tactic(auto, unfolding(crate::specs::Words::two_at))]
 pub fn two(b: &[u8], at: usize) -> u64
     ensures value { result ≡ two_at b.now at }
     ensures upper_bound { result < 2 ^ 16 }
@@ -62,6 +63,7 @@ pub fn two(b: &[u8], at: usize) -> u64
 }
 
 // Four bytes that have all come: who reads many of them tests once, and not at each.
+#[tactic(auto, unfolding(crate::specs::Words::two_at, crate::specs::Words::four_at))]
 pub fn four_there(b: &[u8], at: usize) -> u64
     requires { at + 4 ≤ length b.now }
     ensures value { result ≡ four_at b.now at }
@@ -71,6 +73,7 @@ pub fn four_there(b: &[u8], at: usize) -> u64
 }
 
 // The four bytes from a place on, some of which have not come.
+#[tactic(auto, unfolding(crate::specs::Words::two_at, crate::specs::Words::four_at))]
 fn four_short(b: &[u8], at: usize) -> u64
     ensures value { result ≡ four_at b.now at }
     ensures upper_bound { result < 2 ^ 32 }

@@ -8,7 +8,7 @@ use Rattle.complex_rows.proofs.four_in.Goals as goal
 far : (bs : List ℕ) (at near top : ℕ) → length bs ≤ top → near ≡ min at top → four_at bs near ≡ four_at bs at
 far bs at near top h e =
     elim (cases_lt at top) [
-      inl l ↦ ap (λ (i : ℕ). four_at bs i) (let same : near ≡ at = search rules in same)
+      | inl l ↦ ap (λ (i : ℕ). four_at bs i) (let same : near ≡ at = search rules in same)
       | inr l ↦ four_none bs near (search rules) ∙ sym (four_none bs at (omega arith))
     ]
 
