@@ -12,7 +12,7 @@ use Rattle.words.proofs.Laws.{true_within, both_false}
 use Rattle.decimal.specs.Grammar.{Numeral, Sign, plus, minus, mark, Lead, bare, with, WholeNumber, PointNumber, point, Good, blank, whole, fixed, expo}
 use Rattle.decimal.specs.declared.Shape.{Shape}
 use Rattle.decimal.specs.declared.Shape.TheVariants.{Whole, Fixed, Expo}
-use Rattle.decimal.specs.declared.Written.{Written}
+use Rattle.decimal.specs.Written.{Written}
 use Rattle.bad_byte.specs.Columns.{column_of, pointed?, early?, fits_of, from_blanks, from_ink, next_of, wrong?}
 use Rattle.bad_byte.specs.declared.Column.{Column}
 use Rattle.bad_byte.specs.declared.Column.TheVariants.{Front, Unit as Last, Point, Place, Letter, Sign as Signed}

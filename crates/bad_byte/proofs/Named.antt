@@ -12,7 +12,7 @@ use lib.Seq.{take_all, take-add}
 use borrow.Author.Tests.{eqb-true, eqb-false, ltb-true, ltb-false}
 use Rattle.decimal.specs.Grammar.{Good}
 use Rattle.decimal.specs.declared.Shape.{Shape}
-use Rattle.decimal.specs.declared.Written.{Written}
+use Rattle.decimal.specs.Written.{Written}
 use Rattle.bad_byte.specs.BadByte.{Begins, BadAt}
 use Rattle.bad_byte.specs.Columns.{bad_from, bad_in}
 use Rattle.bad_byte.specs.declared.Stage.TheVariants.{Blanks}

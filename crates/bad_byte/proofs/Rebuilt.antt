@@ -12,8 +12,7 @@ use Rattle.words.proofs.Laws.{within_true, both_l, both_r}
 use Rattle.decimal.specs.Grammar.{Numeral, Sign, plus, minus, mark, Lead, bare, with, point, Good, blank, whole, fixed, expo}
 use Rattle.decimal.specs.declared.Shape.{Shape}
 use Rattle.decimal.specs.declared.Shape.TheVariants.{Whole, Fixed, Expo}
-use Rattle.decimal.specs.declared.Written.{Written}
-use Rattle.decimal.specs.declared.Written.TheVariants.{Blank}
+use Rattle.decimal.specs.Written.{Written, blank as blank_written}
 use Rattle.bad_byte.specs.Columns.{column_of, pointed?, front?, early?, sign_of, fits_of, from_blanks, from_ink, wrong?}
 use Rattle.bad_byte.specs.declared.Column.{Column}
 use Rattle.bad_byte.specs.declared.Column.TheVariants.{Front, Point, Place, Letter, Sign as Signed}
@@ -247,7 +246,7 @@ without (Expo d) c cs e a = expo_sound d bare (dotted (laid_expo d) (c ∷ cs) (
 
 -- blanks in front of either, or alone
 pub rebuilt : (s : Shape) (bs : List ℕ) → Accept s Blanks bs → Sound s bs
-rebuilt s [] a = (Blank, blank s 0)
+rebuilt s [] a = (blank_written, blank s 0)
 rebuilt s (c ∷ cs) a = go (starts s c cs a) (rebuilt s cs)
   where
     go : Starts s c cs → (Accept s Blanks cs → Sound s cs) → Sound s (c ∷ cs)

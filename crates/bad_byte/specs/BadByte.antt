@@ -5,8 +5,7 @@ use Rattle.decimal.specs.Forms.{width_of, shape_of}
 use Rattle.decimal.specs.Grammar.{Good, WellWritten}
 use Rattle.decimal.specs.declared.Form.{Form}
 use Rattle.decimal.specs.declared.Shape.{Shape}
-use Rattle.decimal.specs.declared.Written.{Written}
-use Rattle.decimal.specs.declared.Written.TheVariants.{Blank}
+use Rattle.decimal.specs.Written.{Written, blank}
 
 -- some well-written field of that shape and width begins with these bytes. All blank is well written
 abbrev pub Begins : Shape → ℕ → List ℕ → Type 0
@@ -20,4 +19,4 @@ pub record BadAt (s : Shape) (n : ℕ) (bs : List ℕ) (i : ℕ) : Type 0 where
 -- the place in a field that refusal 6 points at: its first bad byte; where a number is needed and it is all blank, its last byte
 pub data PointsAt (k : Form) (bs : List ℕ) (i : ℕ) : Type 0 where
   bad : BadAt (shape_of k) (width_of k) bs i → PointsAt k bs i
-  empty : WellWritten k bs Blank → i + 1 ≡ width_of k → PointsAt k bs i
+  empty : WellWritten k bs blank → i + 1 ≡ width_of k → PointsAt k bs i

@@ -94,82 +94,59 @@ fn column_at(shape: Shape, left: usize) -> Column
 fn pointed(shape: Shape) -> bool
     ensures { result ≡ pointed? shape }
 {
-    match shape {
-        Shape::Whole => false,
-        Shape::Fixed(_) => true,
-        Shape::Expo(_) => true,
-    }
+    matches!(shape, Shape::Fixed(_) | Shape::Expo(_))
 }
 
 // The column is ahead of what the form demands.
 fn front(column: Column) -> bool
     ensures { result ≡ front? column }
 {
-    match column {
-        Column::Front => true,
-        Column::Unit => false,
-        Column::Point => false,
-        Column::Place => false,
-        Column::Letter => false,
-        Column::Sign => false,
-    }
+    matches!(column, Column::Front)
 }
 
 // A number may begin in the column: it is ahead of what the form demands, or the first of that.
 fn early(column: Column) -> bool
     ensures { result ≡ early? column }
 {
-    match column {
-        Column::Front => true,
-        Column::Unit => true,
-        Column::Point => true,
-        Column::Place => false,
-        Column::Letter => false,
-        Column::Sign => false,
-    }
+    matches!(column, Column::Front | Column::Unit | Column::Point)
 }
 
-fn is_sign(c: u64) -> bool
+fn is_sign(c: u8) -> bool
     ensures { result ≡ sign_of c }
 {
-    if c == 43 {
-        return true;
-    }
-    c == 45
+    c == b'+' || c == b'-'
 }
 
 // The byte is what the column demands: a digit in most.
-fn fits(column: Column, c: u64) -> bool
+fn fits(column: Column, c: u8) -> bool
     ensures { result ≡ fits_of column c }
 {
     match column {
-        Column::Front => words::within(48, c, 57),
-        Column::Unit => words::within(48, c, 57),
-        Column::Point => words::is(c, 46),
-        Column::Place => words::within(48, c, 57),
-        Column::Letter => words::is(c, 69),
+        Column::Front | Column::Unit | Column::Place => b'0' <= c && c <= b'9',
+        Column::Point => c == b'.',
+        Column::Letter => c == b'E',
         Column::Sign => is_sign(c),
     }
 }
 
 // The byte behind blanks alone: a blank everywhere; a number begins, or its sign, where one may.
-fn from_blanks(column: Column, c: u64) -> Stage
+fn from_blanks(column: Column, c: u8) -> Stage
     ensures { result ≡ from_blanks column c }
 {
-    if c == 32 {
+    if c == b' ' {
         return Stage::Blanks;
     }
-    if words::both(early(column), fits(column, c)) {
+    if early(column) && fits(column, c) {
         return Stage::Inked;
     }
-    if words::both(front(column), is_sign(c)) {
+    if front(column) && is_sign(c) {
         return Stage::Behind;
     }
     Stage::Wrong
 }
 
 // The byte behind more than a sign: what the column demands.
-fn from_ink(column: Column, c: u64) -> Stage
+fn from_ink(column: Column, c: u8) -> Stage
     ensures { result ≡ from_ink column c }
 {
     if fits(column, c) {
@@ -179,17 +156,17 @@ fn from_ink(column: Column, c: u64) -> Stage
 }
 
 // The byte behind a sign, or behind blanks that follow it: the same, or a blank more where one may stand.
-fn from_sign(gap: bool, column: Column, c: u64) -> Stage
+fn from_sign(gap: bool, column: Column, c: u8) -> Stage
     ensures { result ≡ from_sign gap column c }
 {
-    if words::both(words::both(gap, front(column)), words::is(c, 32)) {
+    if gap && front(column) && c == b' ' {
         return Stage::Behind;
     }
     from_ink(column, c)
 }
 
 // What stood before the next column, with this one's byte.
-fn next(stage: Stage, gap: bool, column: Column, c: u64) -> Stage
+fn next(stage: Stage, gap: bool, column: Column, c: u8) -> Stage
     ensures { result ≡ next_of gap stage column c }
 {
     match stage {
@@ -203,12 +180,7 @@ fn next(stage: Stage, gap: bool, column: Column, c: u64) -> Stage
 fn wrong(stage: Stage) -> bool
     ensures { result ≡ wrong? stage }
 {
-    match stage {
-        Stage::Blanks => false,
-        Stage::Behind => false,
-        Stage::Inked => false,
-        Stage::Wrong => true,
-    }
+    matches!(stage, Stage::Wrong)
 }
 
 // The place of the first bad byte of a field of this shape, as wide as there are bytes; how many there
@@ -220,13 +192,11 @@ pub fn place(f: &[u8], shape: Shape) -> usize
     let gap = pointed(shape);
     let n = f.len();
     let mut stage = Stage::Blanks;
-    let mut i = 0;
-    while i < n {
-        stage = next(stage, gap, column_at(shape, n - i - 1), f[i] as u64);
+    for (i, &c) in f.iter().enumerate() {
+        stage = next(stage, gap, column_at(shape, n - i - 1), c);
         if wrong(stage) {
             return i;
         }
-        i += 1;
     }
-    i
+    n
 }

@@ -22,8 +22,8 @@ fn built_reply(x: Built) -> Reply
     ensures { result ≡ reply_of (built_as x) 0 }
 {
     match x {
-        Built::Bytes(n) => c_answer::brief(10, n, 0),
-        Built::Refused(r) => c_answer::refusal(r, 0),
+        Ok(n) => c_answer::brief(10, n, 0),
+        Err(r) => c_answer::refusal(r, 0),
     }
 }
 
@@ -32,14 +32,14 @@ fn card_reply(x: Checked) -> Reply
     ensures { result ≡ reply_of (checked_as x) 0 }
 {
     match x {
-        Checked::Card(n, k) => Reply {
+        Ok(card) => Reply {
             tag: 11,
-            a: n,
-            b: k,
+            a: card.lines,
+            b: card.entries,
             c: 0,
             count: 0,
         },
-        Checked::Refused(r) => c_answer::refusal(r, 0),
+        Err(r) => c_answer::refusal(r, 0),
     }
 }
 

@@ -5,7 +5,7 @@
 ghost use Rattle.std.specs.Prelude.{◌≡◌, length};
 ghost use Rattle.lines.specs.View.{view_of};
 ghost use Rattle.copies.specs.Row.{copied_of};
-ghost use Rattle.lines.specs.Said.{view_as};
+ghost use Rattle.lines.specs.Said.{unshown_as, view_as};
 ghost use Rattle.copies.specs.Said.{copied_as};
 ghost use Rattle.c_answer.specs.Reply.{reply_of};
 ghost use Rattle.c_answer.specs.Room.{fits, answered, answer_of};
@@ -13,25 +13,34 @@ ghost use Rattle.c_image.specs.Calls.{row_behind};
 
 use c_answer::Reply;
 use copies::Copied;
-use lines::View;
+use lines::{Unshown, View};
 
 // How many numbers an answer has.
 const ANSWER: usize = c_answer::NUMBERS;
 
-// What a line view shows.
+// Why nothing is shown.
+pub fn unshown_reply(x: Unshown) -> Reply
+    ensures { result ≡ reply_of (unshown_as x) 0 }
+{
+    match x {
+        Unshown::Wait(n) => c_answer::brief(1, n, 0),
+        Unshown::Refused(r) => c_answer::refusal(r, 0),
+    }
+}
+
+// What a line view answers.
 fn view_reply(x: View) -> Reply
     ensures { result ≡ reply_of (view_as x) 0 }
 {
     match x {
-        View::Shown(start, data, left) => Reply {
+        Ok(shown) => Reply {
             tag: 7,
-            a: start,
-            b: data,
-            c: left,
+            a: shown.start,
+            b: shown.count,
+            c: shown.left,
             count: 0,
         },
-        View::Wait(n) => c_answer::brief(1, n, 0),
-        View::Refused(r) => c_answer::refusal(r, 0),
+        Err(x) => unshown_reply(x),
     }
 }
 
@@ -40,9 +49,8 @@ pub fn copy_reply(x: Copied) -> Reply
     ensures { result ≡ reply_of (copied_as x) 0 }
 {
     match x {
-        Copied::Done(n) => c_answer::brief(8, n, 0),
-        Copied::Wait(n) => c_answer::brief(1, n, 0),
-        Copied::Refused(r) => c_answer::refusal(r, 0),
+        Ok(n) => c_answer::brief(8, n, 0),
+        Err(x) => unshown_reply(x),
     }
 }
 

@@ -20,9 +20,9 @@ fn field_reply(x: Field) -> Reply
     ensures { result ≡ reply_of (field_said x) 0 }
 {
     match x {
-        Field::Value(_, _) => c_answer::brief(5, 0, 0),
-        Field::Blank => c_answer::brief(6, 0, 0),
-        Field::Refused(r) => c_answer::refusal(r, 0),
+        Ok(Some(_)) => c_answer::brief(5, 0, 0),
+        Ok(None) => c_answer::brief(6, 0, 0),
+        Err(r) => c_answer::refusal(r, 0),
     }
 }
 
@@ -31,9 +31,9 @@ fn put_value(x: Field, value: &mut [i64])
     requires { 2 ≤ length value.old }
     ensures { value.new ≡ value_by x value.old }
 {
-    if let Field::Value(m, e) = x {
-        value[0] = m;
-        value[1] = e;
+    if let Ok(Some(number)) = x {
+        value[0] = number.units;
+        value[1] = number.exponent;
     }
 }
 

@@ -13,7 +13,7 @@ ghost use Rattle.c_answer.specs.Room.{fits, answered, answer_of};
 ghost use Rattle.c_samples.specs.Calls.{parts_behind};
 
 use c_answer::Reply;
-use samples::{Patterned, Powered};
+use samples::{Patterned, Powered, Sample};
 
 // How many numbers an answer has.
 const ANSWER: usize = c_answer::NUMBERS;
@@ -23,16 +23,15 @@ pub fn sample_reply(x: Patterned) -> Reply
     ensures { result ≡ reply_of (patterned_as x) 0 }
 {
     match x {
-        Patterned::Count(n) => c_answer::brief(12, n as u64, 0),
-        Patterned::Complex(p) => Reply {
+        Ok(Sample::Count(n)) => c_answer::brief(12, n as u64, 0),
+        Ok(Sample::Complex(re, im)) => Reply {
             tag: 13,
-            a: p.re as u64,
-            b: p.im as u64,
+            a: re as u64,
+            b: im as u64,
             c: 0,
             count: 0,
         },
-        Patterned::Wait(n) => c_answer::brief(1, n, 0),
-        Patterned::Refused(r) => c_answer::refusal(r, 0),
+        Err(x) => c_image::unshown_reply(x),
     }
 }
 
@@ -41,9 +40,8 @@ pub fn power_reply(x: Powered) -> Reply
     ensures { result ≡ reply_of (powered_as x) 0 }
 {
     match x {
-        Powered::Power(n) => c_answer::brief(14, n as u64, 0),
-        Powered::Wait(n) => c_answer::brief(1, n, 0),
-        Powered::Refused(r) => c_answer::refusal(r, 0),
+        Ok(n) => c_answer::brief(14, n as u64, 0),
+        Err(x) => c_image::unshown_reply(x),
     }
 }
 

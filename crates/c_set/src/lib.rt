@@ -19,8 +19,8 @@ fn set_reply(x: Agreement) -> Reply
     ensures { result ≡ reply_of (agreement_as x) 0 }
 {
     match x {
-        Agreement::Agrees => c_answer::brief(9, 0, 0),
-        Agreement::Refused(r) => c_answer::refusal(r, 0),
+        Ok(()) => c_answer::brief(9, 0, 0),
+        Err(r) => c_answer::refusal(r, 0),
     }
 }
 

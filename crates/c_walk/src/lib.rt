@@ -10,7 +10,8 @@ ghost use Rattle.c_walk.specs.Calls.{room, begun_state, begun_answer, walked_sta
 
 use c_answer::Reply;
 use turns::Stop;
-use walk::{Beginning, State};
+use walk::State;
+use words::Refusal;
 
 // How many numbers a state and an answer have.
 const STATE: usize = c_state::NUMBERS;
@@ -18,12 +19,12 @@ const STATE: usize = c_state::NUMBERS;
 const ANSWER: usize = c_answer::NUMBERS;
 
 // What a begun walk answers.
-fn beginning_reply(x: Beginning) -> Reply
+fn beginning_reply(x: Result<State, Refusal>) -> Reply
     ensures { result ≡ reply_of (beginning_as x) 0 }
 {
     match x {
-        Beginning::Fresh => c_answer::brief(4, 0, 0),
-        Beginning::Unknown(r) => c_answer::refusal(r, 0),
+        Ok(_) => c_answer::brief(4, 0, 0),
+        Err(r) => c_answer::refusal(r, 0),
     }
 }
 
@@ -52,10 +53,12 @@ pub fn sbg_begin(kind: u64, state: &mut [u64], answer: &mut [u64]) -> u64
         return 0;
     }
     let begun = State::none().begin(kind);
-    let st = begun.state;
-    let x = begun.answer;
+    c_answer::say(beginning_reply(begun), answer);
+    let st = match begun {
+        Ok(st) => st,
+        Err(_) => State::none(),
+    };
     c_state::put(st, state);
-    c_answer::say(beginning_reply(x), answer);
     1
 }
 

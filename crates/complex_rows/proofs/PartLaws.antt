@@ -12,10 +12,11 @@ use borrow.Author.Tests.{lt-ltb, le-ltb}
 use Rattle.words.specs.Tests.{pick}
 use Rattle.words.specs.Words.{four_at}
 use Rattle.words.specs.Answer.{bare_refusal}
-use Rattle.words.specs.declared.Refusal.{Refusal}
-use Rattle.lines.specs.declared.View.{View}
-use Rattle.lines.specs.declared.View.TheVariants.{Shown, Wait, Refused}
-use Rattle.copies.specs.declared.Copied.TheVariants.{Done, Wait as Wait', Refused as Refused'}
+use Rattle.std.specs.Prelude.{Ok, Err}
+use Rattle.lines.specs.View.{View}
+use Rattle.lines.specs.declared.Shown.{Shown}
+use Rattle.lines.specs.declared.Unshown.{Unshown}
+use Rattle.lines.specs.declared.Unshown.TheVariants.{Refused}
 use Rattle.samples.specs.Samples.{is_complex, pattern_at, place_in}
 use Rattle.samples.proofs.StayLaws.{four_stays}
 use Rattle.complex_rows.specs.Parts.{fours, parts, parts_copied_by, parts_row_by}
@@ -94,41 +95,12 @@ parts_stay bs more at (suc n) h =
     ap₂ (λ (a b : ℕ). a ∷ b ∷ parts (bs ++ more) (at + 8) n) (four_stays bs more at (omega arith)) (four_stays bs more (at + 4) (omega arith))
     ∙ ap (λ (l : List ℕ). four_at bs at ∷ four_at bs (at + 4) ∷ l) (parts_stay bs more (at + 8) n (omega arith))
 
-pub row_stays : (bs more row : List ℕ) (start count left sort : ℕ) → start + 8 * count ≤ length bs
-    → parts_row_by (Shown start count left) sort (bs ++ more) row ≡ parts_row_by (Shown start count left) sort bs row
-row_stays bs more row start count left sort h =
-    ap (λ (l : List ℕ). pick (is_complex sort) (pick (ltb (length row) (2 * count)) row (l ++ drop (2 * count) row)) row) (parts_stay bs more start count h)
+pub row_stays : (bs more row : List ℕ) (x : Shown) (sort : ℕ) → x.start + 8 * x.count ≤ length bs
+    → parts_row_by (Ok x) sort (bs ++ more) row ≡ parts_row_by (Ok x) sort bs row
+row_stays bs more row x sort h =
+    ap (λ (l : List ℕ). pick (is_complex sort) (pick (ltb (length row) (2 * x.count)) row (l ++ drop (2 * x.count) row)) row)
+    (parts_stay bs more x.start x.count h)
 
 -- counts leave the row as it was, whatever the bytes
-pub row_counts : (bs row : List ℕ) (start count left sort : ℕ) → is_complex sort ≡ false → parts_row_by (Shown start count left) sort bs row ≡ row
-row_counts bs row start count left sort k = simp k
-
--- ---- the copy by what the view shows
-
-module _ (v : View) (sort : ℕ) (bs row : List ℕ) where
-  pub copy_wait : (n : ℕ) → v ≡ Wait n → (Wait' n ≡ parts_copied_by v sort (length row)) × (row ≡ parts_row_by v sort bs row)
-  copy_wait n e = (sym (ap (λ (x : View). parts_copied_by x sort (length row)) e), sym (ap (λ (x : View). parts_row_by x sort bs row) e))
-
-  pub copy_refused : (r : Refusal) → v ≡ Refused r → (Refused' r ≡ parts_copied_by v sort (length row)) × (row ≡ parts_row_by v sort bs row)
-  copy_refused r e = (sym (ap (λ (x : View). parts_copied_by x sort (length row)) e), sym (ap (λ (x : View). parts_row_by x sort bs row) e))
-
-  module _ (start count left : ℕ) (e : v ≡ Shown start count left) where
-    pub copy_counts : is_complex sort ≡ false → (Refused' (bare_refusal 23) ≡ parts_copied_by v sort (length row)) × (row ≡ parts_row_by v sort bs row)
-    copy_counts k = (
-      sym (ap (λ (x : View). parts_copied_by x sort (length row)) e ∙ simp k),
-      sym (ap (λ (x : View). parts_row_by x sort bs row) e ∙ simp k),
-    )
-
-    pub copy_short : is_complex sort ≡ true → length row < 2 * count
-        → (Refused' (bare_refusal 15) ≡ parts_copied_by v sort (length row)) × (row ≡ parts_row_by v sort bs row)
-    copy_short k h = (
-      sym (ap (λ (x : View). parts_copied_by x sort (length row)) e ∙ simp (k, lt-ltb _ _ h)),
-      sym (ap (λ (x : View). parts_row_by x sort bs row) e ∙ simp (k, lt-ltb _ _ h)),
-    )
-
-    pub copy_done : is_complex sort ≡ true → 2 * count ≤ length row
-        → (Done count ≡ parts_copied_by v sort (length row)) × (parts bs start count ++ drop (2 * count) row ≡ parts_row_by v sort bs row)
-    copy_done k h = (
-      sym (ap (λ (x : View). parts_copied_by x sort (length row)) e ∙ simp (k, le-ltb _ _ h)),
-      sym (ap (λ (x : View). parts_row_by x sort bs row) e ∙ simp (k, le-ltb _ _ h)),
-    )
+pub row_counts : (bs row : List ℕ) (x : Shown) (sort : ℕ) → is_complex sort ≡ false → parts_row_by (Ok x) sort bs row ≡ row
+row_counts bs row x sort k = simp k

@@ -7,7 +7,7 @@ ghost use Rattle.words.specs.Words.{four_at};
 ghost use Rattle.complex_rows.specs.Parts.{fours, parts, parts_copied_by, parts_row_by, parts_copied, parts_row};
 
 use copies::Copied;
-use lines::View;
+use lines::{Unshown, View};
 
 // Number j, from 0, of those of four bytes that start there, some of which may lie behind the bytes.
 fn four_in(bytes: &[u8], start: u64, j: u64) -> u32
@@ -92,20 +92,16 @@ pub fn complex_row_in(bytes: &[u8], v: View, sort: u64, row: &mut [u32]) -> Copi
     ensures value { result ≡ parts_copied_by v sort (length row.old) }
     ensures row_after { row.new ≡ parts_row_by v sort bytes.now row.old }
 {
-    match v {
-        View::Wait(n) => Copied::Wait(n),
-        View::Refused(r) => Copied::Refused(r),
-        View::Shown(start, count, _) => {
-            if samples::is_complex(sort) {
-                if (row.len() as u64) / 2 < count {
-                    return Copied::Refused(words::bare(15));
-                }
-                fill(bytes, start, count as usize, row);
-                return Copied::Done(count);
-            }
-            Copied::Refused(words::bare(23))
-        }
+    let shown = v?;
+    if !samples::is_complex(sort) {
+        return Err(Unshown::Refused(words::bare(23)));
     }
+    let count = shown.count;
+    if (row.len() as u64) / 2 < count {
+        return Err(Unshown::Refused(words::bare(15)));
+    }
+    fill(bytes, shown.start, count as usize, row);
+    Ok(count)
 }
 
 // The complex row copy of line k of an image prefix held from byte 0: the line's own wait or refusal, then 23
@@ -115,6 +111,5 @@ pub fn complex_row(bytes: &[u8], k: u64, row: &mut [u32]) -> Copied
     ensures row_after { row.new ≡ parts_row bytes.now k row.old }
 {
     let x = lines::sorted_view(bytes, k);
-    let v = x.view;
-    complex_row_in(bytes, v, x.sort, row)
+    complex_row_in(bytes, x.view, x.sort, row)
 }

@@ -9,15 +9,15 @@ use lib.Seq.{set_at, drop-cons, append_snoc}
 use borrow.Author.Tests.{lt-ltb, le-ltb, eq-eqb, ne_eqb}
 use Rattle.words.specs.Words.{two_at}
 use Rattle.words.specs.Answer.{bare_refusal}
-use Rattle.words.specs.declared.Refusal.{Refusal}
 use Rattle.plan.specs.Tables.{sort_of}
-use Rattle.lines.specs.View.{view_of, sort_seen, sorted_of}
+use Rattle.lines.specs.View.{View, view_of, sort_seen, sorted_of}
 use Rattle.lines.specs.declared.Sorted.{Sorted}
 use Rattle.lines.proofs.InsideLaws.{shown_within}
 use Rattle.copies.specs.Row.{samples_from, samples, copied_by, row_by, copied_of, row_of}
-use Rattle.lines.specs.declared.View.{View}
-use Rattle.lines.specs.declared.View.TheVariants.{Shown, Wait, Refused}
-use Rattle.copies.specs.declared.Copied.TheVariants.{Done, Wait as Wait', Refused as Refused'}
+use Rattle.lines.specs.declared.Shown.{Shown}
+use Rattle.lines.specs.declared.Unshown.{Unshown}
+use Rattle.lines.specs.declared.Unshown.TheVariants.{Refused}
+use Rattle.std.specs.Prelude.{Ok, Err}
 
 pub length_samples : (j n : ℕ) (px : List ℕ) → length (samples_from j n px) ≡ n
 unfolding samples_from
@@ -62,12 +62,11 @@ row_none px row = refl
 -- ---- the copy by what the view shows
 
 -- the data pixels of counts, of two bytes each, lie within the bytes held
-pub counts_within : (bs : List ℕ) (k : ℕ) (x : Sorted) → x ≡ sorted_of bs k → (start count left : ℕ) → x.view ≡ Shown start count left → x.sort ≡ 0
-    → start + 2 * count ≤ length bs
+pub counts_within : (bs : List ℕ) (k : ℕ) (x : Sorted) → x ≡ sorted_of bs k → (y : Shown) → x.view ≡ Ok y → x.sort ≡ 0 → y.start + 2 * y.count ≤ length bs
 unfolding sort_of
-counts_within bs k x sees start count left e none =
-    subst (λ (i : ℕ). start + (sort_of i).group * count ≤ length bs) (sym (ap (λ (y : Sorted). y.sort) sees) ∙ none)
-    (shown_within bs k start count left (sym (ap (λ (y : Sorted). y.view) sees) ∙ e))
+counts_within bs k x sees y e none =
+    subst (λ (i : ℕ). y.start + (sort_of i).group * y.count ≤ length bs) (sym (ap (λ (z : Sorted). z.sort) sees) ∙ none)
+    (shown_within bs k y.start y.count y.left (sym (ap (λ (z : Sorted). z.view) sees) ∙ e))
 
 module _ (bs : List ℕ) (k : ℕ) (row : List ℕ) (x : Sorted) (sees : x ≡ sorted_of bs k) where
   copied_is : (v : View) → x.view ≡ v → copied_of bs k (length row) ≡ copied_by v x.sort (length row)
@@ -79,28 +78,25 @@ module _ (bs : List ℕ) (k : ℕ) (row : List ℕ) (x : Sorted) (sees : x ≡ s
   unfolding row_of
   row_is v e = ap (λ (y : Sorted). row_by y.view y.sort bs row) (sym sees) ∙ ap (λ (y : View). row_by y x.sort bs row) e
 
-  pub copy_wait : (n : ℕ) → x.view ≡ Wait n → (Wait' n ≡ copied_of bs k (length row)) × (row ≡ row_of bs k row)
-  copy_wait n e = (sym (copied_is (Wait n) e), sym (row_is (Wait n) e))
+  pub copy_unshown : (y : Unshown) → x.view ≡ Err y → (Err y ≡ copied_of bs k (length row)) × (row ≡ row_of bs k row)
+  copy_unshown y e = (sym (copied_is (Err y) e), sym (row_is (Err y) e))
 
-  pub copy_refused : (r : Refusal) → x.view ≡ Refused r → (Refused' r ≡ copied_of bs k (length row)) × (row ≡ row_of bs k row)
-  copy_refused r e = (sym (copied_is (Refused r) e), sym (row_is (Refused r) e))
-
-  module _ (start count left : ℕ) (e : x.view ≡ Shown start count left) where
-    pub copy_sort : (x.sort ≡ 0 → ⊥) → (Refused' (bare_refusal 23) ≡ copied_of bs k (length row)) × (row ≡ row_of bs k row)
+  module _ (y : Shown) (e : x.view ≡ Ok y) where
+    pub copy_sort : (x.sort ≡ 0 → ⊥) → (Err (Refused (bare_refusal 23)) ≡ copied_of bs k (length row)) × (row ≡ row_of bs k row)
     copy_sort n = (
       sym (copied_is _ e ∙ simp (ne_eqb x.sort 0 n)),
       sym (row_is _ e ∙ simp (ne_eqb x.sort 0 n)),
     )
 
     module _ (counts : x.sort ≡ 0) where
-      pub copy_short : length row < count → (Refused' (bare_refusal 15) ≡ copied_of bs k (length row)) × (row ≡ row_of bs k row)
+      pub copy_short : length row < y.count → (Err (Refused (bare_refusal 15)) ≡ copied_of bs k (length row)) × (row ≡ row_of bs k row)
       copy_short h = (
         sym (copied_is _ e ∙ simp (eq-eqb x.sort 0 counts, lt-ltb _ _ h)),
         sym (row_is _ e ∙ simp (eq-eqb x.sort 0 counts, lt-ltb _ _ h)),
       )
 
-      pub copy_done : count ≤ length row → (px : List ℕ) → px ≡ take (2 * count) (drop start bs)
-          → (Done count ≡ copied_of bs k (length row)) × (samples count px ++ drop count row ≡ row_of bs k row)
+      pub copy_done : y.count ≤ length row → (px : List ℕ) → px ≡ take (2 * y.count) (drop y.start bs)
+          → (Ok y.count ≡ copied_of bs k (length row)) × (samples y.count px ++ drop y.count row ≡ row_of bs k row)
       copy_done h px q = (
         sym (copied_is _ e ∙ simp (eq-eqb x.sort 0 counts, le-ltb _ _ h)),
         sym (row_is _ e ∙ simp (eq-eqb x.sort 0 counts, le-ltb _ _ h, q)),

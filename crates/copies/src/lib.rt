@@ -6,16 +6,10 @@ ghost use Rattle.std.specs.Prelude.{◌≡◌, ◌++◌, ◌+◌, ◌*◌, ◌�
 ghost use Rattle.words.specs.Words.{two_at};
 ghost use Rattle.copies.specs.Row.{samples, copied_of, row_of};
 
-use lines::View;
-use words::Refusal;
+use lines::Unshown;
 
 // What the row copy answers: how many samples were copied; or a wait or a refusal, and nothing was.
-#[derive(Clone, Copy)]
-pub enum Copied {
-    Done(u64),
-    Wait(u64),
-    Refused(Refusal),
-}
+pub type Copied = Result<u64, Unshown>;
 
 // Two bytes that are there, low byte first: the compiler reads them at once. Read and swapped by one
 // function they would be read one by one (docs/SPEED.md).
@@ -56,21 +50,16 @@ pub fn row_copy(bytes: &[u8], k: u64, row: &mut [u16]) -> Copied
     ensures row_after { row.new ≡ row_of bytes.now k row.old }
 {
     let x = lines::sorted_view(bytes, k);
-    let v = x.view;
-    match v {
-        View::Wait(n) => Copied::Wait(n),
-        View::Refused(r) => Copied::Refused(r),
-        View::Shown(start, count, _) => {
-            if x.sort != plan::COUNTS {
-                return Copied::Refused(words::bare(23));
-            }
-            if (row.len() as u64) < count {
-                return Copied::Refused(words::bare(15));
-            }
-            let from = start as usize;
-            let to = (start + 2 * count) as usize;
-            write(&bytes[from..to], count as usize, row);
-            Copied::Done(count)
-        }
+    let shown = x.view?;
+    if x.sort != plan::COUNTS {
+        return Err(Unshown::Refused(words::bare(23)));
     }
+    let count = shown.count;
+    if (row.len() as u64) < count {
+        return Err(Unshown::Refused(words::bare(15)));
+    }
+    let from = shown.start as usize;
+    let to = (shown.start + 2 * count) as usize;
+    write(&bytes[from..to], count as usize, row);
+    Ok(count)
 }

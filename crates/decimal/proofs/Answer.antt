@@ -14,8 +14,7 @@ use Rattle.decimal.specs.Grammar.{Good, WellWritten, Means, well, badly, blank, 
 use Rattle.decimal.specs.declared.Form.{Form}
 use Rattle.decimal.specs.declared.Form.TheVariants.{I4, I6, I8, I16, F8d3, F16d7, E20d13}
 use Rattle.decimal.specs.declared.Shape.{Shape}
-use Rattle.decimal.specs.declared.Written.{Written}
-use Rattle.decimal.specs.declared.Written.TheVariants.{Bad}
+use Rattle.decimal.specs.Written.{Written, badly as badly_written}
 use Rattle.decimal.proofs.Complete.{complete}
 use Rattle.decimal.proofs.Sound.{Found, good, none, sound}
 use Rattle.decimal.proofs.Laws as laws
@@ -34,7 +33,7 @@ pub fits_length : (k : Form) (bs : List ℕ) → length bs ≡ width_of k → Fi
 fits_length k bs e = subst (Fit (shape_of k)) (sym e) (fits k)
 
 -- nothing well written is bad
-pub never : {k : Shape} {bs : List ℕ} {r : Written} → Good true k bs r → r ≡ Bad → ⊥
+pub never : {k : Shape} {bs : List ℕ} {r : Written} → Good true k bs r → r ≡ badly_written → ⊥
 never (blank k n) e = let z : ◌≡◌ {A = ℕ} 0 1 = cc in omega arith
 never (whole w) e = let z : ◌≡◌ {A = ℕ} 0 1 = cc in omega arith
 never (fixed w) e = let z : ◌≡◌ {A = ℕ} 0 1 = cc in omega arith
@@ -48,7 +47,7 @@ reads k bs r f = laws.wide k bs f.0 ∙ complete (shape_of k) f.1
 pub says : (k : Form) (bs : List ℕ) → Means k bs (written k bs)
 says k bs = go (eqb (length bs) (width_of k)) refl
   where
-    refused : written k bs ≡ Bad → Means k bs Bad
+    refused : written k bs ≡ badly_written → Means k bs badly_written
     refused e = badly (λ r f. never f.1 (sym (reads k bs r f) ∙ e))
 
     found : (r : Written) → length bs ≡ width_of k → written k bs ≡ r → Found (shape_of k) bs r → Means k bs r
@@ -68,6 +67,6 @@ pub one : (k : Form) (bs : List ℕ) (r : Written) → Means k bs r → r ≡ wr
 one k bs r (well f) = sym (reads k bs r f)
 one k bs r (badly n) = go (written k bs) (says k bs)
   where
-    go : (x : Written) → Means k bs x → Bad ≡ x
+    go : (x : Written) → Means k bs x → badly_written ≡ x
     go x (well f) = absurd (n x f)
     go x (badly m) = refl

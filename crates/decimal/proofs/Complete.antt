@@ -10,17 +10,15 @@ use lib.Dec.{eqb}
 use lib.IntN.{ℤ}
 use borrow.Author.Tests.{ne_eqb, le-leb}
 use Rattle.words.specs.Tests.{pick}
-use Rattle.digits.specs.Segments.{after_blanks, after_gap, digits_of, with_sign, sign_of, head_of, on_part, mantissa_of, exponent_of, signed_digits}
+use Rattle.std.proofs.Common.{Some, None}
+use Rattle.digits.specs.Segments.{after_blanks, after_gap, digits_of, signed, with_sign, sign_of, head_of, on_part, mantissa_of, exponent_of, signed_digits}
 use Rattle.decimal.specs.Scan.{number_in, decimal_of, or_blank, scaled_of}
 use Rattle.decimal.specs.Grammar.{Numeral, after, Sign, plus, minus, mark, negative, Gap, Lead, bare, with, signed_of, Good, blank, whole, fixed, expo}
 use Rattle.decimal.proofs.Spelt.{dot, Spelt, spelt, of_whole, of_point}
 use Rattle.decimal.specs.declared.Shape.{Shape}
-use Rattle.decimal.specs.declared.Written.{Written}
-use Rattle.decimal.specs.declared.Written.TheVariants.{Number}
-use Rattle.digits.specs.declared.Digits.TheVariants.{Count}
-use Rattle.digits.specs.declared.Part.TheVariants.{Signed, Wrong}
+use Rattle.decimal.specs.Written.{Written, number_written}
 
-pub numeral : (a : ℕ) (cs : List ℕ) → Numeral cs → digits_of a cs ≡ Count (after a cs)
+pub numeral : (a : ℕ) (cs : List ℕ) → Numeral cs → digits_of a cs ≡ Some (after a cs)
 numeral a [] n = refl
 numeral a (c ∷ cs) n = rw (le-leb 48 c n.0, le-leb c 57 n.1) (numeral (a * 10 + (c - 48)) cs n.2)
 
@@ -42,21 +40,21 @@ gap : (p : Bool) (m : ℕ) (cs : List ℕ) → Gap p m → Numeral cs → after_
 gap true m cs h n = blanks m cs ∙ unblank cs n
 gap false m cs h n = ap (λ (i : ℕ). replicate i 32 ++ cs) h
 
-sign_bare : (p : Bool) (cs : List ℕ) → Numeral cs → sign_of p (after_blanks cs) ≡ Signed false (after 0 cs)
+sign_bare : (p : Bool) (cs : List ℕ) → Numeral cs → sign_of p (after_blanks cs) ≡ signed false (after 0 cs)
 sign_bare p [] n = refl
 sign_bare p (c ∷ cs) n =
     let l = n.0 in
     rw (ne_eqb c 32 (omega arith), ne_eqb c 45 (omega arith), ne_eqb c 43 (omega arith), numeral 0 (c ∷ cs) n)
 
 pub head : (p : Bool) (b : ℕ) {g : List ℕ} {s : Bool} (cs : List ℕ) → Lead p g s → Numeral cs
-    → sign_of p (after_blanks (replicate b 32 ++ (g ++ cs))) ≡ Signed s (after 0 cs)
+    → sign_of p (after_blanks (replicate b 32 ++ (g ++ cs))) ≡ signed s (after 0 cs)
 head p b cs bare n = rw (blanks b cs) (sign_bare p cs n)
 head p b cs (with plus m h) n = rw (blanks b (43 ∷ (replicate m 32 ++ cs)), gap p m cs h n, numeral 0 cs n)
 head p b cs (with minus m h) n = rw (blanks b (45 ∷ (replicate m 32 ++ cs)), gap p m cs h n, numeral 0 cs n)
 
 -- the bytes fall apart at the point
 pub parts : (p : Bool) (d : ℕ) (hs ps : List ℕ) → length ps ≡ d
-    → mantissa_of p d (hs ++ (dot p ++ ps)) ≡ on_part (head_of p hs) Wrong (λ s a. with_sign s (digits_of a ps))
+    → mantissa_of p d (hs ++ (dot p ++ ps)) ≡ on_part (head_of p hs) None (λ s a. with_sign s (digits_of a ps))
 unfolding mantissa_of
 parts true d hs ps e =
     let t : length (hs ++ 46 ∷ ps) - d ≡ length hs + 1 = omega (arith, length-append hs (46 ∷ ps)) in
@@ -66,7 +64,7 @@ parts false d hs ps e =
     let t : length (hs ++ ps) - d ≡ length hs = omega (arith, length-append hs ps) in
     rw (t, take_at hs ps (length hs) refl, drop_at hs ps (length hs) refl)
 
-pub mantissa : (p : Bool) (d : ℕ) {bs : List ℕ} {s : Bool} {a : ℕ} → Spelt p d bs s a → mantissa_of p d bs ≡ Signed s a
+pub mantissa : (p : Bool) (d : ℕ) {bs : List ℕ} {s : Bool} {a : ℕ} → Spelt p d bs s a → mantissa_of p d bs ≡ signed s a
 mantissa p d (spelt b {g} ws ps l n m e) =
     let q : replicate b 32 ++ (g ++ (ws ++ (dot p ++ ps))) ≡ (replicate b 32 ++ (g ++ ws)) ++ (dot p ++ ps) = simp append_assoc in
     rw (q, parts p d (replicate b 32 ++ (g ++ ws)) ps e, head p b ws l n, numeral (after 0 ws) ps m, after_append 0 ws ps)
@@ -100,7 +98,7 @@ all_blank : (n : ℕ) → after_blanks (replicate n 32) ≡ []
 all_blank zero = refl
 all_blank (suc n) = all_blank n
 
-scales : (s : Bool) (a : ℕ) (g : Sign) (ds : List ℕ) → Numeral ds → scaled_of (Signed s a) (signed_digits (mark g) ds) ≡ Number (signed_of s a)
+scales : (s : Bool) (a : ℕ) (g : Sign) (ds : List ℕ) → Numeral ds → scaled_of (signed s a) (signed_digits (mark g) ds) ≡ number_written (signed_of s a)
     (signed_of (negative g) (after 0 ds))
 scales s a plus ds n = rw (numeral 0 ds n)
 scales s a minus ds n = rw (numeral 0 ds n)
@@ -119,4 +117,4 @@ complete k (expo {d} {bs} w g ds n e) =
     let t : length (bs ++ 69 ∷ (mark g ∷ ds)) - 4 ≡ length bs = omega (arith, length-append bs (69 ∷ (mark g ∷ ds))) in
     let i : Inked (bs ++ 69 ∷ (mark g ∷ ds)) = inked_right bs (here {c = 69} (omega arith)) in
     rw (inked i _, t, take_at bs (69 ∷ (mark g ∷ ds)) (length bs) refl, drop_at bs (69 ∷ (mark g ∷ ds)) (length bs) refl, mantissa true d m.spelt)
-    (scales m.minus m.digits g ds n ∙ ap (λ (z : ℤ). Number z (signed_of (negative g) (after 0 ds))) m.value)
+    (scales m.minus m.digits g ds n ∙ ap (λ (z : ℤ). number_written z (signed_of (negative g) (after 0 ds))) m.value)

@@ -15,8 +15,8 @@ use Rattle.digits.proofs.Laws.{one, none}
 use Rattle.decimal.specs.Scan.{number_in, decimal_of, written}
 use Rattle.decimal.specs.Forms.{width_of, shape_of}
 use Rattle.decimal.specs.declared.Form.{Form}
+use Rattle.decimal.specs.Written.{blank, badly}
 use Rattle.decimal.specs.declared.Shape.{Shape}
-use Rattle.decimal.specs.declared.Written.TheVariants.{Blank, Bad}
 
 -- the machine's 0 - n, for n below half the width
 pub neg_fits : (n : ℕ) → n < 2 ^ 63 → SFits w64 (neg_ℤ (pos n))
@@ -31,7 +31,7 @@ module _ (k : Shape) (f : List ℕ) (r : ℕ) (rest : slice r (length f) f ≡ a
   left_over : after_blanks f ≡ slice r (length f) f
   left_over = ap after_blanks (sym (take-length f)) ∙ sym rest
 
-  pub blank_yes : r ≡ length f → decimal_of k f ≡ Blank
+  pub blank_yes : r ≡ length f → decimal_of k f ≡ blank
   unfolding decimal_of
   blank_yes e = rw (left_over, none f r (length f) (omega arith) (omega arith))
 
@@ -48,6 +48,6 @@ module _ (k : Form) (f : List ℕ) where
   unfolding written
   wide e = rw (eq-eqb (length f) (width_of k) e)
 
-  pub not_wide : (length f ≡ width_of k → ⊥) → written k f ≡ Bad
+  pub not_wide : (length f ≡ width_of k → ⊥) → written k f ≡ badly
   unfolding written
   not_wide n = rw (ne_eqb (length f) (width_of k) n)

@@ -7,7 +7,7 @@ use lib.IntN.{ℤ}
 use Rattle.decimal.specs.Grammar.{Gap, Lead, bare, with, PointNumber, point, Good, blank, whole, fixed, expo, WellWrittenBy}
 use Rattle.decimal.specs.declared.Form.{Form}
 use Rattle.decimal.specs.declared.Shape.{Shape}
-use Rattle.decimal.specs.declared.Written.{Written}
+use Rattle.decimal.specs.Written.{Written}
 
 module _ (a b : Bool) (more : a ≡ true → b ≡ true) where
   gap : (x y : Bool) → (x ≡ true → y ≡ true) → (n : ℕ) → Gap x n → Gap y n

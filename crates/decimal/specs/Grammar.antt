@@ -6,8 +6,7 @@ use Rattle.decimal.specs.Forms.{width_of, shape_of}
 use Rattle.decimal.specs.declared.Form.{Form}
 use Rattle.decimal.specs.declared.Shape.{Shape}
 use Rattle.decimal.specs.declared.Shape.TheVariants.{Whole, Fixed, Expo}
-use Rattle.decimal.specs.declared.Written.{Written}
-use Rattle.decimal.specs.declared.Written.TheVariants.{Number, Blank, Bad}
+use Rattle.decimal.specs.Written.{Written, number_written, blank as blank_written, badly as badly_written}
 
 -- every byte is a digit, `0` to `9`
 abbrev pub Numeral : List ℕ → Type 0
@@ -61,11 +60,11 @@ pub data PointNumber (gap : Bool) (d : ℕ) : List ℕ → ℤ → Type 0 where
 
 -- a well-written field, and what it says. All blank is "blank". E: as F, then `E`, a sign, two digits
 pub data Good (gap : Bool) : Shape → List ℕ → Written → Type 0 where
-  blank : (k : Shape) (n : ℕ) → Good gap k (replicate n 32) Blank
-  whole : {bs : List ℕ} {m : ℤ} → WholeNumber bs m → Good gap Whole bs (Number m (pos 0))
-  fixed : {d : ℕ} {bs : List ℕ} {m : ℤ} → PointNumber gap d bs m → Good gap (Fixed d) bs (Number m (pos 0))
+  blank : (k : Shape) (n : ℕ) → Good gap k (replicate n 32) blank_written
+  whole : {bs : List ℕ} {m : ℤ} → WholeNumber bs m → Good gap Whole bs (number_written m (pos 0))
+  fixed : {d : ℕ} {bs : List ℕ} {m : ℤ} → PointNumber gap d bs m → Good gap (Fixed d) bs (number_written m (pos 0))
   expo : {d : ℕ} {bs : List ℕ} {m : ℤ} → PointNumber gap d bs m → (g : Sign) (ds : List ℕ) → Numeral ds → length ds ≡ 2
-      → Good gap (Expo d) (bs ++ 69 ∷ (mark g ∷ ds)) (Number m (signed_of (negative g) (after 0 ds)))
+      → Good gap (Expo d) (bs ++ 69 ∷ (mark g ∷ ds)) (number_written m (signed_of (negative g) (after 0 ds)))
 
 -- a well-written field of a form: as many bytes as the form is wide. Blanks behind the sign of F and E are allowed or not
 abbrev pub WellWrittenBy : Bool → Form → List ℕ → Written → Type 0
@@ -78,4 +77,4 @@ WellWritten = WellWrittenBy true
 -- what bytes say: what the well-written field with these bytes says, or, where there is none, that they are badly written
 pub data Means (k : Form) (bs : List ℕ) : Written → Type 0 where
   well : {r : Written} → WellWritten k bs r → Means k bs r
-  badly : ((r : Written) → WellWritten k bs r → ⊥) → Means k bs Bad
+  badly : ((r : Written) → WellWritten k bs r → ⊥) → Means k bs badly_written

@@ -5,12 +5,12 @@
 #![tactic(auto)]
 
 ghost use Rattle.std.specs.Prelude.{◌≡◌, ◌<◌, ◌^◌, length};
-ghost use Rattle.digits.specs.Segments.{Small};
+ghost use Rattle.digits.specs.Segments.{Small, Skipped};
 ghost use Rattle.decimal.specs.Forms.{width_of, shape_of};
 ghost use Rattle.decimal.specs.Grammar.{Means, signed_of};
-ghost use Rattle.decimal.specs.Scan.{Fit, plain_of, scaled_of, decimal_of, written};
+ghost use Rattle.decimal.specs.Scan.{Fit, plain_of, scaled_of, number_in, decimal_of, written};
 
-use digits::Part;
+use digits::Signed;
 
 // The seven forms in use, as the sources write them: I4, I6, I8, I16, F8.3, F16.7, E20.13.
 #[derive(Clone, Copy)]
@@ -24,14 +24,20 @@ pub enum Form {
     E20d13,
 }
 
-// What a field's bytes say: one signed whole number of units in the last written place, with the
-// exponent (0 for I and F); blank; or badly written.
+// A written number: one signed whole number of units in the last written place, with the exponent (0
+// for I and F).
 #[derive(Clone, Copy)]
-pub enum Written {
-    Number(i64, i64),
-    Blank,
-    Bad,
+pub struct Number {
+    pub units: i64,
+    pub exponent: i64,
 }
+
+// The bytes are no number of the form, and not all blank.
+#[derive(Clone, Copy)]
+pub struct BadlyWritten;
+
+// What a field's bytes say: a number, or None where all are blank; or that they are badly written.
+pub type Written = Result<Option<Number>, BadlyWritten>;
 
 // A form without its width: Iw, Fw.d with its places, E with its places.
 #[derive(Clone, Copy)]
@@ -79,80 +85,59 @@ fn signed(minus: bool, n: u64) -> i64
     if minus { -m } else { m }
 }
 
-fn plain(x: Part) -> Written
+fn plain(x: Option<Signed>) -> Written
     requires { Small (10 ^ 18) x }
     ensures { result ≡ plain_of x }
 {
-    match x {
-        Part::Signed(minus, n) => Written::Number(signed(minus, n), 0),
-        Part::Wrong => Written::Bad,
-    }
+    let x = x.ok_or(BadlyWritten)?;
+    Ok(Some(Number {
+        units: signed(x.minus, x.digits),
+        exponent: 0,
+    }))
 }
 
-fn scaled(x: Part, y: Part) -> Written
+fn scaled(x: Option<Signed>, y: Option<Signed>) -> Written
     requires { (Small (10 ^ 18) x) × (Small (10 ^ 18) y) }
     ensures { result ≡ scaled_of x y }
 {
-    match x {
-        Part::Signed(minus, n) => match y {
-            Part::Signed(down, e) => Written::Number(signed(minus, n), signed(down, e)),
-            Part::Wrong => Written::Bad,
-        },
-        Part::Wrong => Written::Bad,
-    }
+    let x = x.ok_or(BadlyWritten)?;
+    let y = y.ok_or(BadlyWritten)?;
+    Ok(Some(Number {
+        units: signed(x.minus, x.digits),
+        exponent: signed(y.minus, y.digits),
+    }))
 }
 
-// What the bytes of a field of a whole number say, whose width the caller has seen to. Here and in the
-// two below the blanks are looked at once, and what follows them is read by its place (docs/SPEED.md).
-pub fn whole(f: &[u8]) -> Written
-    requires { Fit Shape.Whole (length f.now) }
-    ensures { result ≡ decimal_of Shape.Whole f.now }
+// What the bytes of a field of this shape say whose first byte that is no blank stands at k.
+fn number_in(f: &[u8], k: usize, shape: Shape) -> Written
+    requires skipped { Skipped f.now 0 (length f.now) k }
+    requires k_in_bounds { k < length f.now }
+    requires fit { Fit shape (length f.now) }
+    ensures { result ≡ number_in shape f.now }
 {
     let n = f.len();
-    let k = digits::skip(f, 0, n);
-    if k < n {
-        return plain(digits::whole(f, k));
+    match shape {
+        Shape::Whole => plain(digits::whole(f, k)),
+        Shape::Fixed(places) => plain(digits::mantissa(f, k, places, n)),
+        Shape::Expo(places) => {
+            let e = n - 4;
+            scaled(digits::mantissa(f, k, places, e), digits::exponent(f, e))
+        }
     }
-    Written::Blank
 }
 
-// The same of a field of a number with so many places.
-pub fn fixed(f: &[u8], places: usize) -> Written
-    requires { Fit (Shape.Fixed places) (length f.now) }
-    ensures { result ≡ decimal_of (Shape.Fixed places) f.now }
-{
-    let n = f.len();
-    let k = digits::skip(f, 0, n);
-    if k < n {
-        return plain(digits::mantissa(f, k, places, n));
-    }
-    Written::Blank
-}
-
-// The same of a field of a number with so many places and an exponent.
-pub fn expo(f: &[u8], places: usize) -> Written
-    requires { Fit (Shape.Expo places) (length f.now) }
-    ensures { result ≡ decimal_of (Shape.Expo places) f.now }
-{
-    let n = f.len();
-    let k = digits::skip(f, 0, n);
-    if k < n {
-        let e = n - 4;
-        return scaled(digits::mantissa(f, k, places, e), digits::exponent(f, e));
-    }
-    Written::Blank
-}
-
-// What the bytes of a field say by its shape.
-fn field(f: &[u8], shape: Shape) -> Written
+// What the bytes of a field of this shape say, whose width the caller has seen to. The blanks are looked
+// at once, and what follows them is read by its place (docs/SPEED.md).
+pub fn shaped(f: &[u8], shape: Shape) -> Written
     requires { Fit shape (length f.now) }
     ensures { result ≡ decimal_of shape f.now }
 {
-    match shape {
-        Shape::Whole => whole(f),
-        Shape::Fixed(d) => fixed(f, d),
-        Shape::Expo(d) => expo(f, d),
+    let n = f.len();
+    let k = digits::skip(f, 0, n);
+    if k < n {
+        return number_in(f, k, shape);
     }
+    Ok(None)
 }
 
 // What these bytes say as a field of this form. Bytes that are not as many as the form is wide are
@@ -162,7 +147,7 @@ pub fn read(f: &[u8], form: Form) -> Written
     ensures value { result ≡ written form f.now }
 {
     if f.len() != width(form) {
-        return Written::Bad;
+        return Err(BadlyWritten);
     }
-    field(f, shape_of(form))
+    shaped(f, shape_of(form))
 }

@@ -2,21 +2,30 @@
 use Prim.Native.Nat.{ℕ, zero-le, ◌+◌, ◌-◌, ◌*◌, ◌^◌, ◌≤◌, ◌<◌}
 use mathlib.Core.Path.{◌≡◌, refl, sym, ap, ◌∙◌, subst}
 use mathlib.Core.List.{List, [], ◌∷◌}
+use mathlib.Core.Logic.{◌⊎◌, inl, inr}
 use mathlib.Core.Bool.{Bool, true, false}
+use Rattle.std.proofs.Common.{Option, Some, None}
 use native.Mathlib.Numerals.{add-one}
 use lib.Dec.{eqb}
 use native.Mathlib.Nat.{pow-suc, pow-le-pow_right}
 use native.Mathlib.Omega.{arith}
-use lib.ListN.{length, get_or, drop}
-use lib.Seq.{slice, slice-cons, slice_empty, length-slice, take-length}
+use lib.ListN.{length, get_or, take, drop, length-drop}
+use lib.Seq.{slice, slice-cons, slice_empty, length-slice, take-length, length-take-le}
+use Rattle.std.proofs.lemmas.List.{drop-take}
 use borrow.Author.Tests.{eq-eqb, ne_eqb, eqb-false, le-leb, lt-leb}
 use Rattle.words.specs.Tests.{pick}
 use Rattle.words.proofs.Laws.{within_true}
 use Rattle.digits.specs.Segments.{after_blanks, digit?, digits_of, Under, Small, with_sign, sign_of, signs, signed_digits, exponent_of, Is}
-use Rattle.digits.specs.declared.Digits.{Digits}
-use Rattle.digits.specs.declared.Digits.TheVariants.{Count, Stray}
-use Rattle.digits.specs.declared.Part.{Part}
-use Rattle.digits.specs.declared.Part.TheVariants.{Wrong}
+use Rattle.digits.specs.declared.Signed.{Signed}
+
+-- the part of the bytes that a loop goes through
+pub part : (f : List ℕ) (at end : ℕ) → at ≤ end → take (end - at) (drop at f) ≡ slice at end f
+part f at end h =
+    let e : at + (end - at) ≡ end = omega arith in
+    sym (drop-take at (end - at) f) ∙ ap (λ (n : ℕ). slice at n f) e
+
+pub length_part : (f : List ℕ) (at end : ℕ) → end ≤ length f → length (take (end - at) (drop at f)) ≡ end - at
+length_part f at end h = length-take-le (end - at) (drop at f) (omega (arith, length-drop at f))
 
 module _ (f : List ℕ) (i end : ℕ) (h : i < end) (k : end ≤ length f) where
   pub one : slice i end f ≡ get_or f i 0 ∷ slice (i + 1) end f
@@ -28,11 +37,9 @@ module _ (f : List ℕ) (i end : ℕ) (h : i < end) (k : end ≤ length f) where
   pub skip_more : get_or f i 0 ≡ 32 → after_blanks (slice i end f) ≡ after_blanks (slice (i + 1) end f)
   skip_more e = rw (one, eq-eqb (get_or f i 0) 32 e)
 
-  pub run_low : (a : ℕ) → get_or f i 0 < 48 → digits_of a (slice i end f) ≡ Stray
-  run_low a l = rw (one, lt-leb 48 (get_or f i 0) l)
-
-  pub run_high : (a : ℕ) → 57 < get_or f i 0 → digits_of a (slice i end f) ≡ Stray
-  run_high a l = rw (one, le-leb 48 (get_or f i 0) (omega arith), lt-leb (get_or f i 0) 57 l)
+  pub run_off : (a : ℕ) → (get_or f i 0 < 48) ⊎ ((48 ≤ get_or f i 0) × (57 < get_or f i 0)) → digits_of a (slice i end f) ≡ None
+  run_off a (inl l) = rw (one, lt-leb 48 (get_or f i 0) l)
+  run_off a (inr l) = rw (one, le-leb 48 (get_or f i 0) l.0, lt-leb (get_or f i 0) 57 l.1)
 
   pub run_more : (a : ℕ) → 48 ≤ get_or f i 0 → get_or f i 0 ≤ 57 → digits_of a (slice i end f) ≡ digits_of (a * 10 + (get_or f i 0 - 48)) (slice (i + 1) end f)
   run_more a l m = rw (one, le-leb 48 (get_or f i 0) l, le-leb (get_or f i 0) 57 m)
@@ -58,7 +65,7 @@ module _ (f : List ℕ) (i end : ℕ) (h : i ≤ end) (k : end ≤ i) where
   pub skip_done : slice i end f ≡ after_blanks (slice i end f)
   skip_done = rw none
 
-  pub run_done : (a : ℕ) → digits_of a (slice i end f) ≡ Count a
+  pub run_done : (a : ℕ) → digits_of a (slice i end f) ≡ Some a
   run_done a = rw none
 
 pub none_yet : (i : ℕ) → 0 < 10 ^ i
@@ -70,15 +77,15 @@ under [] a d h = let e : d ≡ d + 0 = omega arith in subst (λ x. a < 10 ^ x) e
 under (c ∷ cs) a d h = go (digit? c) refl (under cs (a * 10 + (c - 48)) (d + 1))
   where
     go : (b : Bool) → digit? c ≡ b → (a * 10 + (c - 48) < 10 ^ (d + 1) → Under (10 ^ (d + 1 + length cs)) (digits_of (a * 10 + (c - 48)) cs))
-        → Under (10 ^ (d + length (c ∷ cs))) (pick b (digits_of (a * 10 + (c - 48)) cs) Stray)
+        → Under (10 ^ (d + length (c ∷ cs))) (pick b (digits_of (a * 10 + (c - 48)) cs) None)
     go true q r =
         let e : d + 1 + length cs ≡ d + length (c ∷ cs) = omega arith in
         subst (λ x. Under (10 ^ x) (digits_of (a * 10 + (c - 48)) cs)) e (r (grows a c d h (within_true 48 c 57 q).1))
     go false q r = tt
 
-wider : (m n : ℕ) (d : Digits) → m ≤ n → Under (10 ^ m) d → Under (10 ^ n) d
-wider m n (Count a) h u = room n h u
-wider m n Stray h u = tt
+wider : (m n : ℕ) (d : Option ℕ) → m ≤ n → Under (10 ^ m) d → Under (10 ^ n) d
+wider m n (Some a) h u = room n h u
+wider m n None h u = tt
 
 pub few : (f : List ℕ) (at end a d m : ℕ) → end ≤ length f → a < 10 ^ d → d + (end - at) ≤ m → Under (10 ^ m) (digits_of a (slice at end f))
 few f at end a d m l h k =
@@ -110,12 +117,12 @@ inked (x ∷ xs) c cs e q = go (eqb x 32) refl e (λ h. inked xs c cs h q)
     go false p h r = eqb-false x 32 p ((let y : x ≡ c = cc in y) ∙ q)
 
 -- a part made of a sign and of digits that were read
-pub made : (s : Bool) (d : Digits) {x r : Part} → r ≡ with_sign s d → Under (10 ^ 18) d → x ≡ with_sign s d → Is 18 x r
+pub made : (s : Bool) (d : Option ℕ) {x r : Option Signed} → r ≡ with_sign s d → Under (10 ^ 18) d → x ≡ with_sign s d → Is 18 x r
 made s d {x} {r} e u q = record { is = e ∙ sym q; small = rw e (go d u) }
   where
-    go : (y : Digits) → Under (10 ^ 18) y → Small (10 ^ 18) (with_sign s y)
-    go (Count a) v = v
-    go Stray v = tt
+    go : (y : Option ℕ) → Under (10 ^ 18) y → Small (10 ^ 18) (with_sign s y)
+    go (Some a) v = v
+    go None v = tt
 
 -- a sign is a byte
 pub one_byte : (c : ℕ) → signs c ≤ 1
@@ -140,13 +147,13 @@ signed c cs n = go (eqb c 45) (eqb c 43)
 
 -- an exponent by its bytes
 pub exp_is : (f : List ℕ) (at : ℕ) → at + 4 ≡ length f
-    → exponent_of (drop at f) ≡ pick (eqb (get_or f at 0) 69) (signed_digits (get_or f (at + 1) 0) (slice (at + 2) (at + 4) f)) Wrong
+    → exponent_of (drop at f) ≡ pick (eqb (get_or f at 0) 69) (signed_digits (get_or f (at + 1) 0) (slice (at + 2) (at + 4) f)) None
 unfolding exponent_of
 exp_is f at h =
     let e : at + 1 + 1 ≡ at + 2 = omega arith in
     ap exponent_of (sym four ∙ one f at (at + 4) (omega arith) (omega arith)
     ∙ ap (λ (l : List ℕ). get_or f at 0 ∷ l) (one f (at + 1) (at + 4) (omega arith) (omega arith)))
-    ∙ ap (λ (x : ℕ). pick (eqb (get_or f at 0) 69) (signed_digits (get_or f (at + 1) 0) (slice x (at + 4) f)) Wrong) e
+    ∙ ap (λ (x : ℕ). pick (eqb (get_or f at 0) 69) (signed_digits (get_or f (at + 1) 0) (slice x (at + 4) f)) None) e
   where
     four : slice at (at + 4) f ≡ drop at f
     four = rw h (ap (drop at) (take-length f))

@@ -1,12 +1,11 @@
 -- What a number field at a place of some bytes says, and that answer in document 01's words. Assumes nothing.
-use Rattle.std.specs.Prelude.{ℕ, ◌+◌, List, Bool, false, eqb, ltb, length, take, drop}
+use Rattle.std.specs.Prelude.{ℕ, ◌+◌, List, Bool, false, eqb, ltb, length, take, drop, Some, None, Ok, Err}
 use Rattle.words.specs.Tests.{pick}
 use Rattle.words.specs.Answer.{Answer, valued, bare, blank, refused_as, refusal_at}
 use Rattle.decimal.specs.Forms.{width_of, shape_of}
 use Rattle.decimal.specs.Scan.{written}
 use Rattle.decimal.specs.declared.Form.{Form}
-use Rattle.decimal.specs.declared.Written.{Written}
-use Rattle.decimal.specs.declared.Written.TheVariants.{Number, Blank as Blank', Bad}
+use Rattle.decimal.specs.Written.{Written}
 use Rattle.bad_byte.specs.Columns.{bad_in}
 use Rattle.fields.specs.declared.Field.{Field}
 use Rattle.fields.specs.declared.Field.TheVariants.{Value, Blank, Refused}
@@ -23,9 +22,9 @@ refuse n at = Refused (refusal_at n at)
 
 -- badly written is refusal 6, at that place
 abbrev pub from_written : ℕ → Written → Field
-from_written at (Number m e) = Value m e
-from_written at Blank' = Blank
-from_written at Bad = refuse 6 at
+from_written at (Ok (Some x)) = Value x.units x.exponent
+from_written at (Ok None) = Blank
+from_written at (Err x) = refuse 6 at
 
 -- the bytes of the field of a form at a place
 abbrev pub field_bytes : List ℕ → ℕ → Form → List ℕ

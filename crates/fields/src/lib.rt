@@ -6,7 +6,6 @@
 ghost use Rattle.std.specs.Prelude.{◌≡◌, ◌<◌, ◌≤◌, ◌+◌, ltb, length, take, drop};
 ghost use Rattle.decimal.specs.Forms.{width_of};
 ghost use Rattle.decimal.specs.Scan.{Fit};
-ghost use Rattle.decimal.specs.declared.Shape.TheVariants.{Whole, Fixed, Expo};
 ghost use Rattle.bad_byte.specs.Columns.{bad_in};
 ghost use Rattle.fields.specs.Shaped.{shaped_at};
 ghost use Rattle.fields.specs.Field.{field_at, rough_at, bad_place, badly?, from_written, refuse};
@@ -17,6 +16,7 @@ use words::Refusal;
 
 // What a number field says: one signed whole number of units in the last written place with its
 // exponent (0 for I and F), blank, or a refusal.
+// kept: docs/RULES.md, "Forms for each place", names `Field::Value`, which callers take by `let .. else`.
 #[derive(Clone, Copy)]
 pub enum Field {
     Value(i64, i64),
@@ -43,9 +43,9 @@ fn from_written(w: Written, at: usize) -> Field
     ensures { result ≡ from_written at w }
 {
     match w {
-        Written::Number(m, e) => Field::Value(m, e),
-        Written::Blank => Field::Blank,
-        Written::Bad => refused(6, at as u64),
+        Ok(Some(x)) => Field::Value(x.units, x.exponent),
+        Ok(None) => Field::Blank,
+        Err(_) => refused(6, at as u64),
     }
 }
 
@@ -60,41 +60,16 @@ fn short(bytes: &[u8], at: usize, n: usize) -> bool
     len - n < at
 }
 
-// A whole number of n bytes at a place. Here and in the two below bytes that end before the field does are
-// refusal 2.
-fn whole_at(bytes: &[u8], at: usize, n: usize) -> Field
-    requires { Fit Whole n }
-    ensures { result ≡ shaped_at bytes.now at n Whole }
+// A number of this shape in n bytes at a place. Bytes that end before the field does are refusal 2.
+fn shaped_at(bytes: &[u8], at: usize, n: usize, shape: Shape) -> Field
+    requires { Fit shape n }
+    ensures { result ≡ shaped_at bytes.now at n shape }
 {
     if short(bytes, at, n) {
         return refused(2, 0);
     }
     let end = at + n;
-    from_written(decimal::whole(&bytes[at..end]), at)
-}
-
-// A number of n bytes with so many places at a place.
-fn fixed_at(bytes: &[u8], at: usize, n: usize, places: usize) -> Field
-    requires { Fit (Fixed places) n }
-    ensures { result ≡ shaped_at bytes.now at n (Fixed places) }
-{
-    if short(bytes, at, n) {
-        return refused(2, 0);
-    }
-    let end = at + n;
-    from_written(decimal::fixed(&bytes[at..end], places), at)
-}
-
-// A number of n bytes with so many places and an exponent at a place.
-fn expo_at(bytes: &[u8], at: usize, n: usize, places: usize) -> Field
-    requires { Fit (Expo places) n }
-    ensures { result ≡ shaped_at bytes.now at n (Expo places) }
-{
-    if short(bytes, at, n) {
-        return refused(2, 0);
-    }
-    let end = at + n;
-    from_written(decimal::expo(&bytes[at..end], places), at)
+    from_written(decimal::shaped(&bytes[at..end], shape), at)
 }
 
 // What the field of this form at a place says, but for the place of a 6. Each form's width and places stand
@@ -103,13 +78,13 @@ fn rough_at(bytes: &[u8], at: usize, form: Form) -> Field
     ensures { result ≡ rough_at bytes.now at form }
 {
     match form {
-        Form::I4 => whole_at(bytes, at, 4),
-        Form::I6 => whole_at(bytes, at, 6),
-        Form::I8 => whole_at(bytes, at, 8),
-        Form::I16 => whole_at(bytes, at, 16),
-        Form::F8d3 => fixed_at(bytes, at, 8, 3),
-        Form::F16d7 => fixed_at(bytes, at, 16, 7),
-        Form::E20d13 => expo_at(bytes, at, 20, 13),
+        Form::I4 => shaped_at(bytes, at, 4, Shape::Whole),
+        Form::I6 => shaped_at(bytes, at, 6, Shape::Whole),
+        Form::I8 => shaped_at(bytes, at, 8, Shape::Whole),
+        Form::I16 => shaped_at(bytes, at, 16, Shape::Whole),
+        Form::F8d3 => shaped_at(bytes, at, 8, Shape::Fixed(3)),
+        Form::F16d7 => shaped_at(bytes, at, 16, Shape::Fixed(7)),
+        Form::E20d13 => shaped_at(bytes, at, 20, Shape::Expo(13)),
     }
 }
 

@@ -30,15 +30,15 @@ pub fn header(ordinal: u64, c: Codes, long: u64, b: &[u8]) -> Verdict
     ensures { result ≡ header_of ordinal c long b.now }
 {
     if words::four(b, 0) != ordinal {
-        return Verdict::Fault(3, 0);
+        return Err(words::at_place(3, 0));
     }
-    if codes_are(b, c) {
-        if words::four(b, 8) != long {
-            return Verdict::Fault(5, 8);
-        }
-        return Verdict::Fine;
+    if !codes_are(b, c) {
+        return Err(words::at_place(4, 4));
     }
-    Verdict::Fault(4, 4)
+    if words::four(b, 8) != long {
+        return Err(words::at_place(5, 8));
+    }
+    Ok(())
 }
 
 // A header's tests on bytes that have all come: whether `header` would find nothing wrong.

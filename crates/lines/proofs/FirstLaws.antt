@@ -29,10 +29,10 @@ use Rattle.walk.specs.declared.State.{State}
 use Rattle.walk.specs.declared.Walked.{Walked}
 use Rattle.walk.proofs.GoodLaws.{fresh_good}
 use Rattle.walk.proofs.KeptLaws.{good_kept}
-use Rattle.lines.specs.View.{line_of, behind_first, first_of, view_of, sort_seen, sorted_of, Lined}
-use Rattle.lines.specs.declared.View.{View}
+use Rattle.lines.specs.View.{View, line_of, behind_first, first_of, view_of, sort_seen, sorted_of, Lined}
 use Rattle.lines.specs.declared.Sorted.{Sorted}
-use Rattle.lines.specs.declared.View.TheVariants.{Wait, Refused}
+use Rattle.lines.specs.declared.Unshown.TheVariants.{Wait, Refused}
+use Rattle.std.specs.Prelude.{Err}
 use Rattle.lines.proofs.LinedLaws.{lined}
 
 -- what is found in the first record's body
@@ -105,18 +105,18 @@ module _ (bs : List ℕ) where
 
 -- the view by the first record's tests, one after the other
 module _ (bs : List ℕ) where
-  pub view_short : (k : ℕ) → length bs < 12 → sorted_of bs k ≡ record { sort = 0; view = Wait (12 - length bs) }
+  pub view_short : (k : ℕ) → length bs < 12 → sorted_of bs k ≡ record { sort = 0; view = Err (Wait (12 - length bs)) }
   view_short k h = view_halted bs k (Wait' (12 - length bs)) (turn_is bs ∙ rw (lt-ltb (length bs) 12 h))
 
   module _ (twelve : 12 ≤ length bs) where
     pub view_header : (k n at : ℕ) → header_of 1 (first_codes image) 720 bs ≡ Fault n at
-        → sorted_of bs k ≡ record { sort = 0; view = Refused (record { number = n; «record» = 1; place = at }) }
+        → sorted_of bs k ≡ record { sort = 0; view = Err (Refused (record { number = n; «record» = 1; place = at })) }
     view_header k n at q =
         view_halted bs k (Refused' (record { number = n; «record» = 1; place = 0 + at })) (turn_is bs ∙ rw (le-ltb (length bs) 12 twelve, q))
-        ∙ ap (λ (m : ℕ). record { sort = 0; view = Refused (record { number = n; «record» = 1; place = m }) }) (zero-add at)
+        ∙ ap (λ (m : ℕ). record { sort = 0; view = Err (Refused (record { number = n; «record» = 1; place = m })) }) (zero-add at)
 
     module _ (head : header_of 1 (first_codes image) 720 bs ≡ Fine) where
-      pub view_cut : (k : ℕ) → length bs < 720 → sorted_of bs k ≡ record { sort = 0; view = Wait (720 - length bs) }
+      pub view_cut : (k : ℕ) → length bs < 720 → sorted_of bs k ≡ record { sort = 0; view = Err (Wait (720 - length bs)) }
       view_cut k h = view_halted bs k (Wait' (720 - length bs)) (turn_is bs ∙ rw (le-ltb (length bs) 12 twelve, head, lt-ltb (length bs) 720 h))
 
       module _ (whole : 720 ≤ length bs) where
@@ -124,10 +124,10 @@ module _ (bs : List ℕ) where
         body_turn v q = turn_is bs ∙ rw (le-ltb (length bs) 12 twelve, head, le-ltb (length bs) 720 whole, q)
 
         pub view_fault : (k n at : ℕ) → (first_of' image (take 720 bs)).verdict ≡ Fault n at
-            → sorted_of bs k ≡ record { sort = 0; view = Refused (record { number = n; «record» = 1; place = at }) }
+            → sorted_of bs k ≡ record { sort = 0; view = Err (Refused (record { number = n; «record» = 1; place = at })) }
         view_fault k n at q =
             view_halted bs k (Refused' (record { number = n; «record» = 1; place = 0 + at })) (body_turn (Fault n at) (body_is bs ∙ q))
-            ∙ ap (λ (m : ℕ). record { sort = 0; view = Refused (record { number = n; «record» = 1; place = m }) }) (zero-add at)
+            ∙ ap (λ (m : ℕ). record { sort = 0; view = Err (Refused (record { number = n; «record» = 1; place = m })) }) (zero-add at)
 
         module _ (fine : (first_of' image (take 720 bs)).verdict ≡ Fine) where
           passes : turn_of (fresh image) bs false ≡ Pass

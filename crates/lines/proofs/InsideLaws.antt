@@ -22,8 +22,7 @@ use Rattle.verdicts.specs.declared.Verdict.TheVariants.{Fine, Fault}
 use Rattle.verdicts.proofs.Holding.{fine_holds}
 use Rattle.headers.specs.Header.{header_of}
 use Rattle.verdicts.proofs.TestLaws.{not_fine}
-use Rattle.lines.specs.View.{left_of, data_of, pixels_from, found_in, record_at, line_of, first_of, view_of, sort_seen}
-use Rattle.lines.specs.declared.View.TheVariants.{Shown}
+use Rattle.lines.specs.View.{shown_view, left_of, data_of, pixels_from, found_in, record_at, line_of, first_of, view_of, sort_seen}
 use Rattle.lines.proofs.LinedLaws.{lined}
 use Rattle.lines.proofs.ViewLaws.{Seen, line_seen, view_line}
 
@@ -77,11 +76,11 @@ module _ (p : Plan) (paired : p.d ≡ group_of p * p.w) (room : p.d + p.s ≤ p.
           let c : group_of p * count ≡ group_of p * data_of r = ap (λ (n : ℕ). group_of p * n) q.counts in
           omega (arith, data_fits (group_of p) p (left_of r) (data_of r) (four_at r (place_of 29)) paired room (line_fills p (suc k) r b), q.whole, q.starts)
 
-  pub line_within : (k : ℕ) (bs : List ℕ) (start count left : ℕ) → line_of p k bs ≡ Shown start count left → start + group_of p * count ≤ length bs
+  pub line_within : (k : ℕ) (bs : List ℕ) (start count left : ℕ) → line_of p k bs ≡ shown_view start count left → start + group_of p * count ≤ length bs
   line_within k bs start count left e = seen_within k bs start count left (line_seen p k bs start count left e)
 
 -- and of a line that is shown under the first record's plan, by the bytes of its sort
-pub shown_within : (bs : List ℕ) (k start count left : ℕ) → view_of bs k ≡ Shown start count left → start + (sort_of (sort_seen bs)).group * count ≤ length bs
+pub shown_within : (bs : List ℕ) (k start count left : ℕ) → view_of bs k ≡ shown_view start count left → start + (sort_of (sort_seen bs)).group * count ≤ length bs
 unfolding sort_seen
 shown_within bs k start count left e =
     let p = (first_of bs).state.plan in

@@ -3,23 +3,34 @@
 // from the plan.
 #![tactic(auto)]
 
-ghost use Rattle.std.specs.Prelude.{◌≡◌, ◌+◌, ◌*◌, ◌≤◌, length};
+ghost use Rattle.std.specs.Prelude.{◌≡◌, ◌+◌, ◌*◌, ◌≤◌, length, Ok, Err};
 ghost use Rattle.plan.specs.Plan.{image, first_codes, due_of, Placed};
 ghost use Rattle.headers.specs.Header.{header_of};
+ghost use Rattle.lines.specs.declared.Unshown.TheVariants.{Wait, Refused};
 ghost use Rattle.lines.specs.View.{pixels_from, shown_of, found_in, line_at, line_of, sorted_of, view_of, pixels_of, Lined};
 
 use plan::{Due, Plan};
 use verdicts::Verdict;
 use words::Refusal;
 
-// What a line view answers: the place of its first data pixel in the file, the data count and the
-// left fill; or the bytes still missing; or why it is refused.
+// What a line view shows: the place of its first data pixel in the file, the data count and the left
+// fill.
 #[derive(Clone, Copy)]
-pub enum View {
-    Shown(u64, u64, u64),
+pub struct Shown {
+    pub start: u64,
+    pub count: u64,
+    pub left: u64,
+}
+
+// Why nothing is shown: the bytes still missing; or the refusal.
+#[derive(Clone, Copy)]
+pub enum Unshown {
     Wait(u64),
     Refused(Refusal),
 }
+
+// What a line view answers.
+pub type View = Result<Shown, Unshown>;
 
 // A view, and the sort of the samples that it shows; 0 where the first record has not passed.
 #[derive(Clone, Copy)]
@@ -40,12 +51,9 @@ fn found(p: Plan, k: u64, d: Due, r: &[u8]) -> Verdict
         image::line_there(p.w, k, r),
     );
     if fine {
-        return Verdict::Fine;
+        return Ok(());
     }
-    let h = headers::header(d.ordinal, codes, d.length, r);
-    let Verdict::Fine = h else {
-        return h;
-    };
+    headers::header(d.ordinal, codes, d.length, r)?;
     image::line(p.w, k, r)
 }
 
@@ -58,16 +66,19 @@ fn pixels_from(p: Plan) -> u64
 }
 
 // What is shown of a line's record that starts there: the data pixels skip the left fill.
-fn shown(p: Plan, start: u64, r: &[u8]) -> View
+fn shown_at(p: Plan, start: u64, r: &[u8]) -> Shown
     requires start_bound { (start ≤ 20000000000000) × (p.s + p.d ≤ p.l) × (p.l ≤ 99999999) }
     requires in_bounds { 32 ≤ length r.now }
-    ensures { result ≡ shown_of p start r.now }
+    ensures { Ok result ≡ shown_of p start r.now }
 {
     let left = words::four_there(r, words::place(21));
-    let data = words::four_there(r, words::place(25));
+    let count = words::four_there(r, words::place(25));
     let group = plan::sort_at(p.sort).group;
-    let from = start + pixels_from(p) + group * left;
-    View::Shown(from, data, left)
+    Shown {
+        start: start + pixels_from(p) + group * left,
+        count,
+        left,
+    }
 }
 
 // Line k, whose record is due there: wait for the bytes still missing to its record's end, then judge
@@ -80,20 +91,19 @@ fn line_at(p: Plan, k: u64, d: Due, bytes: &[u8]) -> View
     let end = d.start + d.length;
     let len = bytes.len() as u64;
     if len < end {
-        return View::Wait(end - len);
+        return Err(Unshown::Wait(end - len));
     }
     let from = d.start as usize;
     let to = end as usize;
     let r = &bytes[from..to];
-    let v = found(p, k, d, r);
-    if let Verdict::Fault(number, at) = v {
-        return View::Refused(Refusal {
-            number,
+    if let Err(x) = found(p, k, d, r) {
+        return Err(Unshown::Refused(Refusal {
+            number: x.number,
             record: d.ordinal,
-            place: d.start + at,
-        });
+            place: d.start + x.place,
+        }));
     }
-    shown(p, d.start, r)
+    Ok(shown_at(p, d.start, r))
 }
 
 // Line k's record as it is due: all lines are of one run, so it is not looked for among the runs.
@@ -121,7 +131,7 @@ fn line(p: Plan, k: u64, bytes: &[u8]) -> View
     if words::within(1, k, p.n) {
         return line_at(p, k, line_due(p, k), bytes);
     }
-    View::Refused(words::bare(13))
+    Err(Unshown::Refused(words::bare(13)))
 }
 
 // The header of the first record, on bytes that have come.
@@ -131,33 +141,28 @@ fn first_header(b: &[u8]) -> Verdict
 {
     let codes = plan::first_codes(plan::IMAGE);
     if headers::header_there(1, codes, 720, b) {
-        return Verdict::Fine;
+        return Ok(());
     }
     headers::header(1, codes, 720, b)
 }
 
 // The bytes of the first record that are still missing: no sort is known.
 fn missing(n: u64) -> Sorted
-    ensures { result ≡ record { sort = 0; view = View.Wait n } }
+    ensures { result ≡ record { sort = 0; view = Err (Wait n) } }
 {
     Sorted {
         sort: 0,
-        view: View::Wait(n),
+        view: Err(Unshown::Wait(n)),
     }
 }
 
 // A refusal of the first record, which starts at 0.
-fn refused(number: u64, place: u64) -> Sorted
-    ensures { result ≡ record { sort = 0; view = View.Refused (record { number = number; «record» = 1; place = place }) } }
+fn refused(x: Refusal) -> Sorted
+    ensures { result ≡ record { sort = 0; view = Err (Refused (record { number = x.number; «record» = 1; place = x.place })) } }
 {
-    let r = Refusal {
-        number,
-        record: 1,
-        place,
-    };
     Sorted {
         sort: 0,
-        view: View::Refused(r),
+        view: Err(Unshown::Refused(Refusal { record: 1, ..x })),
     }
 }
 
@@ -171,22 +176,18 @@ pub fn sorted_view(bytes: &[u8], k: u64) -> Sorted
     if len < 12 {
         return missing(12 - len);
     }
-    let h = first_header(bytes);
-    if let Verdict::Fault(n, at) = h {
-        return refused(n, at);
+    if let Err(x) = first_header(bytes) {
+        return refused(x);
     }
     if len < 720 {
         return missing(720 - len);
     }
-    let x = bodies::of_image(&bytes[..720]);
-    let verdict = x.verdict;
-    if let Verdict::Fault(n, at) = verdict {
-        return refused(n, at);
-    }
-    let p = x.plan;
-    Sorted {
-        sort: p.sort,
-        view: line(p, k, bytes),
+    match bodies::of_image(&bytes[..720]) {
+        Err(x) => refused(x),
+        Ok(p) => Sorted {
+            sort: p.sort,
+            view: line(p, k, bytes),
+        },
     }
 }
 
@@ -204,11 +205,10 @@ pub fn pixels(bytes: &[u8], k: u64) -> &[u8]
 {
     let x = sorted_view(bytes, k);
     let group = plan::sort_at(x.sort).group;
-    let v = x.view;
-    let View::Shown(start, count, _) = v else {
+    let Ok(shown) = x.view else {
         return &bytes[0..0];
     };
-    let from = start as usize;
-    let to = (start + group * count) as usize;
+    let from = shown.start as usize;
+    let to = (shown.start + group * shown.count) as usize;
     &bytes[from..to]
 }

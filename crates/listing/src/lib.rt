@@ -34,10 +34,10 @@ pub struct Told {
 pub fn begin() -> State
     ensures { result ≡ fresh image }
 {
-    let begun = State::none().begin(plan::IMAGE);
-    let st = begun.state;
-    let asked = st.walk(b"", false, 0);
-    asked.state
+    match State::none().begin(plan::IMAGE) {
+        Ok(st) => st.walk(b"", false, 0).state,
+        Err(_) => State::none(),
+    }
 }
 
 // The row of a record that has passed: the first, or a line.

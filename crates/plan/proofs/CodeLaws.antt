@@ -1,14 +1,16 @@
 -- What the definitions of codes and lengths say in each of their cases, by computing their tests.
-use Prim.Native.Nat.{ℕ, zero, suc, ◌+◌, ◌-◌, ◌*◌, ◌≤◌, ◌<◌}
-use mathlib.Core.Path.{◌≡◌, refl, ap}
+use Prim.Native.Nat.{ℕ, zero, suc, ◌+◌, ◌-◌, ◌*◌, ◌≤◌, ◌<◌, min}
+use mathlib.Core.Path.{◌≡◌, refl, sym, ap, ◌∙◌}
+use mathlib.Core.Logic.{⊎_elim}
 use mathlib.Core.List.{[], ◌∷◌}
 use native.Mathlib.Omega.{arith}
 use lib.ListN.{length, get_or-replicate, get_or-eq_default}
-use borrow.Author.Tests.{eq-eqb, ne_eqb, lt-ltb}
+use borrow.Author.Tests.{eq-eqb, ne_eqb, eqb-true, eqb-false, lt-ltb}
 use Rattle.plan.specs.Tables.{rows, slot, slots, facility, slot_of, codes, others, other_codes, sort, sorts, sort_of, last_sort}
 use mathlib.Core.Bool.{Bool, true, false}
 use lib.Dec.{eqb}
 use Rattle.words.specs.Tests.{pick}
+use Rattle.words.proofs.Laws.{cases}
 use Rattle.plan.specs.Plan.{volume, leader, image, first_codes, line_codes, codes_of, first_length, run_counts, run_lengths, sum_of, total_of, spot_from}
 use Rattle.plan.specs.Plan.{spot_of, due_of}
 use Rattle.plan.specs.declared.Plan.{Plan}
@@ -21,6 +23,13 @@ slot_none i h = get_or-eq_default slots (slot 0 0 0 0 0) h
 pub other_none : (i : ℕ) → 6 ≤ i → other_codes i ≡ codes 0 0 0 0
 unfolding other_codes
 other_none i h = get_or-eq_default others (codes 0 0 0 0) h
+
+-- whatever stands behind the six is none
+pub other_min : (run i : ℕ) → i ≡ min run 3 → other_codes (3 + i) ≡ other_codes (3 + run)
+other_min run i e =
+    ⊎_elim (λ z. ap other_codes (let h = eqb-true i run z in omega (arith, h)))
+    (λ z. let n = eqb-false i run z in other_none (3 + i) (omega arith) ∙ sym (other_none (3 + run) (omega arith)))
+    (cases (eqb i run))
 
 pub sort_none : (i : ℕ) → 2 ≤ i → sort_of i ≡ sort (0 ∷ 0 ∷ 0 ∷ 0 ∷ []) 0 0 0
 unfolding sort_of

@@ -22,7 +22,6 @@ use Rattle.walk.specs.State.{fresh, good_state, next_due}
 use Rattle.walk.specs.Walk.{turn_of, next_of, walk_of}
 use Rattle.walk.specs.declared.State.{State}
 use Rattle.turns.specs.declared.Stop.TheVariants.{Complete, Pause}
-use Rattle.turns.specs.declared.Turn.TheVariants.{Pass, Halt}
 use Rattle.walk.specs.declared.Walked.{Walked}
 use Rattle.walk.proofs.GoodLaws.{good_some, fresh_good}
 use Rattle.walk.proofs.LoopLaws.{walk_pause}
@@ -36,6 +35,7 @@ use Rattle.promises.proofs.FirstIs.{first_is, first_names, Fault_free}
 use Rattle.promises.proofs.AnyEdition.{first_size, same_promised}
 use Rattle.promises.proofs.LaterIs.{due, due_at, later_is, promised_length}
 use Rattle.promises.proofs.Least.{spot_least, first_least}
+use Rattle.std.specs.Prelude.{Ok, Err}
 
 none_left : (b : List ℕ) → length b ≡ 0 → b ≡ []
 none_left [] e = refl
@@ -176,13 +176,13 @@ module _ (kind : Kind) (bs : List ℕ) where
   unfolding next_of spot_of
   next_fresh = refl
 
-  fresh_going : turn_of (fresh (kind_number kind)) bs true ≡ Halt Complete → ⊥
+  fresh_going : turn_of (fresh (kind_number kind)) bs true ≡ Err Complete → ⊥
   fresh_going e =
       let h = (complete_is (kind_number kind) zero_plan 0 (next_due (fresh (kind_number kind))) bs).0 e in
       omega (arith, one_total (kind_number kind) zero_plan)
 
   pub fresh_is : (c : Bool)
-      → (turn_of (fresh (kind_number kind)) bs c ≡ Pass) ↔ ((first_length (kind_number kind) ≤ length bs) × Fault_free (kind_number kind) zero_plan front)
+      → (turn_of (fresh (kind_number kind)) bs c ≡ Ok tt) ↔ ((first_length (kind_number kind) ≤ length bs) × Fault_free (kind_number kind) zero_plan front)
   unfolding spot_of codes_of
   fresh_is c =
       let i = pass_is (kind_number kind) zero_plan 0 (next_due (fresh (kind_number kind))) bs c (one_total (kind_number kind) zero_plan) (first_least kind) in

@@ -11,7 +11,6 @@ use Rattle.walk.specs.State.{fresh, good_state, next_due}
 use Rattle.walk.specs.Walk.{turn_of, next_of, walk_of}
 use Rattle.walk.specs.declared.State.{State}
 use Rattle.turns.specs.declared.Stop.TheVariants.{Pause}
-use Rattle.turns.specs.declared.Turn.TheVariants.{Pass}
 use Rattle.walk.specs.declared.Walked.{Walked}
 use Rattle.walk.proofs.LoopLaws.{walk_pause, walk_pass}
 use Rattle.walk.proofs.TurnLaws.{good_next}
@@ -21,6 +20,7 @@ use Rattle.promises.specs.Newest.{First}
 use Rattle.promises.proofs.Accepts.{fresh_is, good_fresh}
 use Rattle.promises.proofs.FirstIs.{first_names}
 use Rattle.promises.proofs.AnyEdition.{Same, first_size}
+use Rattle.std.specs.Prelude.{Ok}
 
 -- as many bytes as were taken were there
 pub taken_long : (n : ℕ) (bs : List ℕ) → length (take n bs) ≡ n → n ≤ length bs
@@ -28,7 +28,7 @@ taken_long n bs e =
     omega (arith, length-append (take n bs) (drop n bs), ap length (take-append-drop n bs))
 
 -- one turn that passes: paused behind the record
-pub one_turn : (st : State) (bs : List ℕ) (c : Bool) → good_state st ≡ true → turn_of st bs c ≡ Pass
+pub one_turn : (st : State) (bs : List ℕ) (c : Bool) → good_state st ≡ true → turn_of st bs c ≡ Ok tt
     → walk_of 1 st bs c ≡ record { state = next_of st bs; count = 1; stop = Pause }
 one_turn st bs c g t =
     walk_pass st bs c 0 g t
@@ -39,7 +39,7 @@ module _ (kind : Kind) (bs : List ℕ) (q : Plan) (begins : First kind (take (fi
   size : length (take (first_length (kind_number kind)) bs) ≡ first_length (kind_number kind)
   size = first_size newest kind q (take (first_length (kind_number kind)) bs) begins
 
-  pub first_passes : (c : Bool) → turn_of (fresh (kind_number kind)) bs c ≡ Pass
+  pub first_passes : (c : Bool) → turn_of (fresh (kind_number kind)) bs c ≡ Ok tt
   first_passes c = (fresh_is kind bs c).1 (
     taken_long (first_length (kind_number kind)) bs size,
     ((first_names kind zero_plan q (take (first_length (kind_number kind)) bs) size).1 begins).0,

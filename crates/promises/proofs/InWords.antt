@@ -18,16 +18,12 @@ use Rattle.walk.specs.State.{fresh}
 use Rattle.walk.specs.Walk.{walk_of}
 use Rattle.walk.specs.Said.{stop_as}
 use Rattle.walk.specs.declared.State.{State}
-use Rattle.lines.specs.View.{view_of}
+use Rattle.lines.specs.View.{view_of, View, shown_view}
 use Rattle.lines.specs.Said.{view_as}
-use Rattle.lines.specs.declared.View.{View}
-use Rattle.lines.specs.declared.View.TheVariants.{Shown, Wait as Wait', Refused as Refused'}
 use Rattle.copies.specs.Row.{copied_of}
 use Rattle.copies.specs.Said.{copied_as}
-use Rattle.sets.specs.Set.{set_of}
+use Rattle.sets.specs.Set.{set_of, Agreement}
 use Rattle.sets.specs.Said.{agreement_as}
-use Rattle.sets.specs.declared.Agreement.{Agreement}
-use Rattle.sets.specs.declared.Agreement.TheVariants.{Agrees, Refused as Differs}
 use Rattle.promises.specs.Rules.{Kind, volume, kind_number}
 use Rattle.promises.specs.Newest.{Accepted}
 use Rattle.promises.specs.Arriving.{Own, Starts, AtRecordEnd}
@@ -38,6 +34,8 @@ use Rattle.promises.proofs.Ends.{arriving}
 use Rattle.promises.proofs.LineNamed.{line_named}
 use Rattle.promises.proofs.RowNamed.{sample_named}
 use Rattle.promises.proofs.SetAgrees.{set_agrees}
+use Rattle.lines.specs.declared.Unshown.TheVariants as unshown
+use Rattle.std.specs.Prelude.{Ok, Err}
 
 -- ---- each word is one case
 
@@ -63,14 +61,14 @@ complete_is (Refused r) e = absurd (let z : ◌≡◌ {A = ℕ} 0 1 = cc in omeg
 abbrev pub showing : ℕ → ℕ → ℕ → Answer
 showing start count left = record { word = shown; numbers = pos start ∷ pos count ∷ pos left ∷ [] }
 
-shown_is : (v : View) (start count left : ℕ) → view_as v ≡ showing start count left → v ≡ Shown start count left
-shown_is (Shown a b c) start count left e = let n = ap (λ (x : Answer). x.numbers) e in cc
-shown_is (Wait' n) start count left e = absurd (let w = ap (λ (x : Answer). x.word) e in let z : ◌≡◌ {A = ℕ} 0 1 = cc in omega arith)
-shown_is (Refused' r) start count left e = absurd (let w = ap (λ (x : Answer). x.word) e in let z : ◌≡◌ {A = ℕ} 0 1 = cc in omega arith)
+shown_is : (v : View) (start count left : ℕ) → view_as v ≡ showing start count left → v ≡ shown_view start count left
+shown_is (Ok x) start count left e = let n = ap (λ (x : Answer). x.numbers) e in cc
+shown_is (Err (unshown.Wait n)) start count left e = absurd (let w = ap (λ (x : Answer). x.word) e in let z : ◌≡◌ {A = ℕ} 0 1 = cc in omega arith)
+shown_is (Err (unshown.Refused r)) start count left e = absurd (let w = ap (λ (x : Answer). x.word) e in let z : ◌≡◌ {A = ℕ} 0 1 = cc in omega arith)
 
-agrees_is : (a : Agreement) → (agreement_as a).word ≡ agrees → a ≡ Agrees
-agrees_is Agrees e = refl
-agrees_is (Differs r) e = absurd (let z : ◌≡◌ {A = ℕ} 0 1 = cc in omega arith)
+agrees_is : (a : Agreement) → (agreement_as a).word ≡ agrees → a ≡ Ok tt
+agrees_is (Ok u) e = refl
+agrees_is (Err r) e = absurd (let z : ◌≡◌ {A = ℕ} 0 1 = cc in omega arith)
 
 -- ---- demand 2
 

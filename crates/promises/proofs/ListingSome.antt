@@ -11,13 +11,10 @@ use borrow.Author.Tests.{leb-false, ltb-false, eqb-false}
 use Rattle.words.specs.Tests.{pick}
 use Rattle.words.proofs.Laws.{cases}
 use Rattle.plan.specs.Plan.{image as image', total_of, due_of}
-use Rattle.turns.specs.Turn.{on_fine, judge_of}
+use Rattle.turns.specs.Turn.{on_fine, judge_of, Turn}
 use Rattle.turns.specs.declared.Stop.{Stop}
 use Rattle.turns.specs.declared.Stop.TheVariants.{Wait, Pause, Complete as Complete', Refused as Refused'}
-use Rattle.turns.specs.declared.Turn.{Turn}
-use Rattle.turns.specs.declared.Turn.TheVariants.{Pass, Halt}
 use Rattle.turns.proofs.TurnLaws.{pass_parts, pass_going, judge_body}
-use Rattle.verdicts.specs.declared.Verdict.{Verdict}
 use Rattle.walk.specs.State.{fresh, good_state, next_due}
 use Rattle.walk.specs.Walk.{turn_of, next_of, walk_of}
 use Rattle.walk.specs.declared.State.{State}
@@ -39,6 +36,8 @@ use Rattle.promises.proofs.Counted.{closed_never_waits}
 use Rattle.promises.proofs.FirstPasses.{one_turn}
 use Rattle.promises.proofs.ListingIs.{Room, due_least, say_long, say_short, say_want, say_next, turn_waits, turn_passes, want_fits, want≢last, next≢last}
 use Rattle.promises.proofs.Turns.{turn_room, pass≢halt, never_pause}
+use Rattle.verdicts.specs.Tests.{Verdict}
+use Rattle.std.specs.Prelude.{Ok, Err}
 
 -- how an input is cut: of what is held, what is still to come and how many bytes are wanted, at least one and at most so many come
 pub record Cutting : Type 0 where
@@ -47,12 +46,12 @@ pub record Cutting : Type 0 where
   pub few : (held rest : List ℕ) (m : ℕ) → 1 ≤ m → cut held rest m ≤ m
 
 -- a record that passes a closed file passes an open one
-open_passes : (st : State) (b : List ℕ) → turn_of st b true ≡ Pass → turn_of st b false ≡ Pass
+open_passes : (st : State) (b : List ℕ) → turn_of st b true ≡ Ok tt → turn_of st b false ≡ Ok tt
 open_passes st b t =
     let q = pass_parts st.kind st.plan st.passed (next_due st) b true t in
     judge_body st.kind st.plan st.passed (next_due st) b false (leb-false _ _ q.going) (ltb-false _ _ q.twelve) q.head
     (ltb-false _ _ q.whole)
-    ∙ ap (λ (v : Verdict). on_fine v (next_due st).ordinal (next_due st).start Pass) q.body
+    ∙ ap (λ (v : Verdict). on_fine v (next_due st).ordinal (next_due st).start (Ok tt)) q.body
 
 wanted_some : (n : ℕ) → 1 ≤ wanted n
 unfolding wanted
@@ -71,8 +70,8 @@ module _ (st : State) (held : List ℕ) (g : good_state st ≡ true) (short : to
       no_pause e = by (turn_of st held true) refl
         where
           by : (t : Turn) → turn_of st held true ≡ t → ⊥
-          by Pass t = pass≢halt (sym (open_passes st held t) ∙ turn_waits st held g n waits)
-          by (Halt x) t = never_pause st held true x t (sym (ap (λ (w : Walked). w.stop) (walk_halt st held true 0 x g t)) ∙ e)
+          by (Ok u) t = pass≢halt (sym (open_passes st held t) ∙ turn_waits st held g n waits)
+          by (Err x) t = never_pause st held true x t (sym (ap (λ (w : Walked). w.stop) (walk_halt st held true 0 x g t)) ∙ e)
 
       go : (x : Stop) → (walk_of 1 st held true).stop ≡ x → (row : Row) × ((told_of st held true).say ≡ Last row)
       go (Wait m) e = absurd (closed_never_waits 1 st held m e)

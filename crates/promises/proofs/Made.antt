@@ -11,12 +11,12 @@ use Rattle.words.specs.Tests.{pick}
 use Rattle.words.specs.Words.{two_at, four_at}
 use Rattle.words.proofs.Laws.{both_make}
 use Rattle.plan.specs.declared.Codes.{Codes}
-use Rattle.verdicts.specs.declared.Verdict.TheVariants.{Fine}
 use Rattle.verdicts.proofs.Holding.{holds_fine}
 use Rattle.headers.specs.Header.{codes_are, header_tests, header_of}
 use Rattle.promises.specs.Witness.{four, made}
 use Rattle.promises.specs.Bytes.{Bytes}
 use Rattle.promises.specs.Rules.{concat}
+use Rattle.std.specs.Prelude.{Ok}
 
 pub four_sum : (n : ℕ) → (n / 256 / 256 / 256 * 256 + n / 256 / 256 % 256) * 65536 + (n / 256 % 256 * 256 + n % 256) ≡ n
 four_sum n = omega arith
@@ -44,7 +44,7 @@ module _ (n : ℕ) (c : Codes) (long : ℕ) (rest : List ℕ) where
   unfolding four_at two_at made four
   made_says = four_sum long
 
-  pub made_header : header_of n c long (made n c long rest) ≡ Fine
+  pub made_header : header_of n c long (made n c long rest) ≡ Ok tt
   unfolding header_of header_tests
   made_header =
       holds_fine (header_tests n c long (made n c long rest)) (eq-eqb _ _ made_number, (made_codes, (eq-eqb _ _ made_says, tt)))

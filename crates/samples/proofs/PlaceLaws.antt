@@ -11,8 +11,7 @@ use Rattle.words.specs.Tests.{pick}
 use Rattle.words.specs.Words.{two_at, four_at}
 use Rattle.words.proofs.Laws.{two_none, four_none}
 use Rattle.samples.specs.declared.Pattern.{Pattern}
-use Rattle.samples.specs.declared.Patterned.{Patterned}
-use Rattle.samples.specs.declared.Patterned.TheVariants as Patterned
+use Rattle.samples.specs.declared.Sample.TheVariants.{Count, Complex}
 use Rattle.samples.specs.Samples.{is_complex, group_of, place_in, clipped, pattern_at, stands_at}
 
 -- ---- bytes a sample
@@ -71,8 +70,8 @@ module _ (bs : List ℕ) (at : ℕ) where
 
   pub stands_clipped : (sort : ℕ) → stands_at sort bs (clipped (length bs) at) ≡ stands_at sort bs at
   stands_clipped sort =
-      ap (λ (p : Pattern). pick (is_complex sort) (Patterned.Complex p) (Patterned.Count (two_at bs (clipped (length bs) at)))) pattern_clipped
-      ∙ ap (λ (n : ℕ). pick (is_complex sort) (Patterned.Complex (pattern_at bs at)) (Patterned.Count n)) count_clipped
+      ap (λ (p : Pattern). pick (is_complex sort) (Complex p.re p.im) (Count (two_at bs (clipped (length bs) at)))) pattern_clipped
+      ∙ ap (λ (n : ℕ). pick (is_complex sort) (Complex (pattern_at bs at).re (pattern_at bs at).im) (Count n)) count_clipped
 
 -- ---- where the line's data pixels lie within the bytes, each sample does: no byte of it is made up
 

@@ -10,118 +10,89 @@
 
 use listing::Say;
 use rows::Row;
+use try_commands::{Numbers, part};
 use walk::State;
+
+// How many bytes are held.
+const HELD: usize = 65536;
 
 // More turns than any listing of the bytes held takes: each but the last few takes a byte or a record.
 const TURNS: u64 = 262144;
 
-// Where a listing stands: the state, where the next record starts, how far the bytes have arrived,
-// whether they have ended, and whether to go on.
+// Where a listing stands: the state, where the next record starts, how far the bytes have arrived, and
+// whether they have ended.
 #[derive(Clone, Copy)]
 struct Going {
     state: State,
-    from: u64,
-    to: u64,
+    from: usize,
+    to: usize,
     closed: bool,
-    on: bool,
 }
 
-fn say_start(line: &[u8; 96], n: usize) {
-    try_commands::say(try_commands::part(line, 0, n as u64));
-}
-
-fn print(row: Row) {
+fn print<P: Print>(rt: &P, row: Row) -> std::io::Result<()> {
     let mut line = [0u8; 96];
-    let n = rows::spell(row, &mut line);
-    say_start(&line, n);
+    let length = rows::spell(row, &mut line);
+    rt.write_all(&line[..length])
 }
 
-// More bytes arrive: as many as are wanted, at most a piece and at most what is left. None is the end.
-fn arrive(g: Going, long: usize, want: u64, piece: u64) -> Going {
-    let mut next = g;
-    let to = try_commands::within(g.to, long);
-    let most = try_commands::within(want, long - to);
-    let more = try_commands::within(piece, most);
-    next.to = (to + more) as u64;
-    next.closed = more == 0;
-    next
-}
-
-// One turn on what has arrived of the next record, and what it asks for.
-fn advance(g: Going, file: &[u8], piece: u64) -> Going {
-    let to = try_commands::within(g.to, file.len());
-    let from = try_commands::within(g.from, to);
-    let st = g.state;
-    let t = listing::turn(st, &file[from..to], g.closed);
-    let after = t.state;
-    let say = t.say;
-    match say {
-        Say::Want(m) => arrive(g, file.len(), m, piece),
-        Say::Next(row) => {
-            print(row);
-            Going {
-                state: after,
-                from: g.to,
-                to: g.to,
-                closed: g.closed,
-                on: true,
-            }
+impl Going {
+    // More bytes arrive: as many as are wanted, at most a piece and at most what is left. None is the end.
+    fn arrive(self, left: usize, want: u64, piece: u64) -> Going {
+        let more = left.min(want as usize).min(piece as usize);
+        Going {
+            to: self.to.saturating_add(more),
+            closed: more == 0,
+            ..self
         }
-        Say::Last(row) => {
-            print(row);
-            let mut last = g;
-            last.on = false;
-            last
+    }
+
+    // One turn on what has arrived of the next record, and what it asks for. Behind the last row nothing
+    // goes on.
+    fn advance<P: Print>(self, rt: &P, file: &[u8], piece: u64) -> std::io::Result<Option<Going>> {
+        let to = self.to.min(file.len());
+        let told = listing::turn(self.state, &file[self.from.min(to)..to], self.closed);
+        match told.say {
+            Say::Want(bytes) => Ok(Some(self.arrive(file.len() - to, bytes, piece))),
+            Say::Next(row) => {
+                print(rt, row)?;
+                Ok(Some(Going {
+                    state: told.state,
+                    from: self.to,
+                    ..self
+                }))
+            }
+            Say::Last(row) => {
+                print(rt, row)?;
+                Ok(None)
+            }
         }
     }
 }
 
-fn listed(file: &[u8], piece: u64) {
-    let mut g = Going {
+fn list<P: Print>(rt: &P, file: &[u8], piece: u64) -> std::io::Result<()> {
+    let mut going = Going {
         state: listing::begin(),
         from: 0,
         to: 0,
         closed: false,
-        on: true,
     };
-    let mut turns = TURNS;
-    while turns > 0 && g.on {
-        g = advance(g, file, piece);
-        turns -= 1;
+    for _ in 0..TURNS {
+        match going.advance(rt, file, piece)? {
+            Some(next) => going = next,
+            None => break,
+        }
     }
+    Ok(())
 }
 
-fn command(line: &[u8], held: &mut [u8]) {
-    if line.len() == 0 {
-        return;
+fn ask<P: Print>(rt: &P, op: u8, mut numbers: Numbers<'_>, held: &[u8]) -> std::io::Result<()> {
+    if op == b'l' {
+        let file = part(held, 0, numbers.number());
+        list(rt, file, numbers.number())?;
     }
-    let op = line[0];
-    let a = try_commands::first(line);
-    if op == b'#' {
-        try_commands::say(line);
-        try_commands::say(b"\n");
-    } else if op == b'l' {
-        listed(
-            try_commands::part(held, 0, a.value),
-            try_commands::after(line, a).value,
-        );
-    } else {
-        try_commands::change(line, op, a, held);
-    }
+    Ok(())
 }
 
-fn run(input: &[u8], held: &mut [u8]) {
-    let mut at = 0;
-    while at < input.len() {
-        let end = try_commands::line_end(input, at);
-        command(&input[at..end], held);
-        at = end + 1;
-    }
-}
-
-fn main() {
-    let mut input = [0u8; 262144];
-    let n = io::read_full(0, &mut input);
-    let mut held = io::large_buffer();
-    run(&input[..n], &mut held);
+fn main(rt: HostRuntime) -> std::io::Result<()> {
+    try_commands::run(&rt, HELD, |op, numbers, held| ask(&rt, op, numbers, held))
 }

@@ -10,7 +10,7 @@ ghost use Rattle.walk.specs.Ahead.{Ahead};
 ghost use Rattle.walk.specs.Walk.{next_with, bad_stop, walk_of, begin_of};
 
 use plan::Plan;
-use turns::{Stop, Turn};
+use turns::Stop;
 use words::Refusal;
 
 // The walk's state: file kind, records passed, and the plan taken from the file's first record.
@@ -27,19 +27,6 @@ pub struct Walked {
     pub state: State,
     pub count: u64,
     pub stop: Stop,
-}
-
-// What a begun walk answers: fresh, or refusal 1 for a kind that there is not.
-#[derive(Clone, Copy)]
-pub enum Beginning {
-    Fresh,
-    Unknown(Refusal),
-}
-
-#[derive(Clone, Copy)]
-pub struct Begun {
-    pub state: State,
-    pub answer: Beginning,
 }
 
 // A bad state's refusal.
@@ -62,22 +49,17 @@ impl State {
         }
     }
 
-    // A walk over a file of that kind is begun. It does not look at the state it is called on.
-    pub fn begin(self, kind: u64) -> Begun
+    // A walk over a file of that kind is begun: its fresh state, or refusal 1 for a kind that there is
+    // not. It does not look at the state it is called on.
+    pub fn begin(self, kind: u64) -> Result<State, Refusal>
         ensures { result ≡ begin_of kind }
     {
-        let mut st = State::none();
         if words::within(1, kind, 4) {
+            let mut st = State::none();
             st.kind = kind;
-            return Begun {
-                state: st,
-                answer: Beginning::Fresh,
-            };
+            return Ok(st);
         }
-        Begun {
-            state: st,
-            answer: Beginning::Unknown(words::bare(1)),
-        }
+        Err(words::bare(1))
     }
 
     // The state rule.
@@ -161,18 +143,17 @@ impl State {
             let rest = &bytes[at..];
             let p = st.plan;
             let due = plan::due_of(st.kind, p, st.passed);
-            let judged = turns::judge(st.kind, p, st.passed, due, rest, closed);
-            let turn = judged.turn;
-            if let Turn::Halt(stop) = turn {
-                return Walked {
-                    state: st,
-                    count: n,
-                    stop,
-                };
+            match turns::judge(st.kind, p, st.passed, due, rest, closed) {
+                Err(stop) => {
+                    return Walked {
+                        state: st,
+                        count: n,
+                        stop,
+                    };
+                }
+                Ok(behind) => st = st.next(behind),
             }
             at += due.length as usize;
-            let behind = judged.plan;
-            st = st.next(behind);
             n += 1;
             let long = st.plan.l;
             let c = st.ahead(&bytes[at..], budget - n);

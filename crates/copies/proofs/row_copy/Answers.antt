@@ -1,70 +1,45 @@
 -- What the view says, then 23, then 15, then the samples: each return is the definition at that case, and only the last writes.
-use Prim.Native.Nat.{◌*◌}
-use Rattle.copies.specs.declared.Copied.TheVariants.{Refused}
-use mathlib.Core.Path.{ap, ◌∙◌}
-use Rattle.copies.proofs.RowLaws as laws
+use Rattle.std.proofs.Common.{◌*◌, ap, ◌∙◌, rules, Err}
+use Rattle.std.proofs.lemmas.Result.{err_from_is_err_and}
+use Rattle.words.specs.declared.Refusal.{Refusal}
+use Rattle.lines.specs.declared.Unshown.TheVariants.{Refused}
 use Rattle.lines.proofs.ViewLaws as views
-use borrow.Author.Rules.{rules}
+use Rattle.copies.proofs.RowLaws as laws
 use Rattle.copies.proofs.row_copy.Goals as goal
+
+pub returns-in_err-shown : goal.returns-in_err-shown
+returns-in_err-shown c =
+    let args = c.args in
+    let p = err_from_is_err_and c.from_residual.result c.from_residual.ensures.1 in
+    let h = laws.copy_unshown args.bytes.now args.k args.row.now _ c.sorted_view-x.ensures _ c.in_err-shown.was in
+    record { value = rw (p.1, p.2) h.0; row_after = h.1 }
 
 pub returns-then-x-ne-COUNTS : goal.returns-then-x-ne-COUNTS
 returns-then-x-ne-COUNTS c =
     let args = c.args in
-    let sorted-view = c.sorted_view-x in
-    let if1 = c.if-x-ne-COUNTS in
-    let h = laws.copy_sort args.bytes.now args.k args.row.now _ sorted-view.ensures _ _ _ c.in-Shown.is if1.true in
-    record { value = ap Refused c.bare.ensures ∙ h.0; row_after = h.1 }
+    let h = laws.copy_sort args.bytes.now args.k args.row.now _ c.sorted_view-x.ensures _ c.in_ok-shown.was c.if-x-ne-COUNTS.true in
+    record { value = ap (λ (r : Refusal). Err (Refused r)) c.bare.ensures ∙ h.0; row_after = h.1 }
 
 pub returns-then-row-count : goal.returns-then-row-count
 returns-then-row-count c =
     let args = c.args in
-    let sorted-view = c.sorted_view-x in
-    let if1 = c.if-x-ne-COUNTS in
-    let if2 = c.if-row-count in
-    let h = laws.copy_short args.bytes.now args.k args.row.now _ sorted-view.ensures _ _ _
-    c.in-Shown.is if1.false if2.true in
-    record { value = ap Refused c.bare-then-row-count.ensures ∙ h.0; row_after = h.1 }
+    let counts = c.if-x-ne-COUNTS.false in
+    let h = laws.copy_short args.bytes.now args.k args.row.now _ c.sorted_view-x.ensures _ c.in_ok-shown.was counts c.if-row-count.true in
+    record { value = ap (λ (r : Refusal). Err (Refused r)) c.bare-then-row-count.ensures ∙ h.0; row_after = h.1 }
 
 pub overflow_add-to : goal.overflow_add-to
 overflow_add-to c =
-    let args = c.args in
-    let sorted-view = c.sorted_view-x in
-    let if1 = c.if-x-ne-COUNTS in
-    let h = laws.counts_within args.bytes.now args.k _ sorted-view.ensures _ _ _ c.in-Shown.is if1.false in search rules
+    let h = laws.counts_within c.args.bytes.now c.args.k _ c.sorted_view-x.ensures _ c.in_ok-shown.was c.if-x-ne-COUNTS.false in search rules
 
 pub slice_bounds-write-end : goal.slice_bounds-write-end
 slice_bounds-write-end c =
+    laws.counts_within c.args.bytes.now c.args.k _ c.sorted_view-x.ensures _ c.in_ok-shown.was c.if-x-ne-COUNTS.false
+
+pub returns : goal.returns
+returns c =
     let args = c.args in
-    let sorted-view = c.sorted_view-x in
-    let if1 = c.if-x-ne-COUNTS in
-    laws.counts_within args.bytes.now args.k _ sorted-view.ensures _ _ _ c.in-Shown.is if1.false
-
-pub returns-in-Wait : goal.returns-in-Wait
-returns-in-Wait c =
-    let w = laws.copy_wait c.args.bytes.now
-    c.args.k c.args.row.now _
-    c.sorted_view-x.ensures _ c.in-Wait.is in record { value = w.0; row_after = w.1 }
-
-pub returns-in-Refused : goal.returns-in-Refused
-returns-in-Refused c =
-    let w = laws.copy_refused c.args.bytes.now
-    c.args.k c.args.row.now _
-    c.sorted_view-x.ensures _ c.in-Refused.is in record { value = w.0; row_after = w.1 }
-
-pub returns-else-row-count : goal.returns-else-row-count
-returns-else-row-count c =
-    let args = c.args in
-    let sorted-view = c.sorted_view-x in
-    let if1 = c.if-x-ne-COUNTS in
-    let if2 = c.if-row-count in
-    let write = c.write in
-    let h = laws.copy_done args.bytes.now args.k args.row.now _
-    sorted-view.ensures _ _ _
-    c.in-Shown.is if1.false if2.false _
-    (views.part_is c.in-Shown.start
-    (2 * c.in-Shown.count) args.bytes.now) in
-    record {
-      value = h.0;
-      row_after = write.ensures
-          ∙ h.1;
-    }
+    let shown = c.in_ok-shown.shown in
+    let counts = c.if-x-ne-COUNTS.false in
+    let h = laws.copy_done args.bytes.now args.k args.row.now _ c.sorted_view-x.ensures _ c.in_ok-shown.was counts c.if-row-count.false _
+    (views.part_is shown.start (2 * shown.count) args.bytes.now) in
+    record { value = h.0; row_after = c.write.ensures ∙ h.1 }

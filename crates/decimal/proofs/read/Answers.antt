@@ -16,14 +16,14 @@ returns-then-f-width c =
       value = sym q;
     }
 
-pub field-requires : goal.field-requires
-field-requires c = rw c.shape_of.ensures
+pub shaped-requires : goal.shaped-requires
+shaped-requires c = rw c.shape_of.ensures
     (fits_length c.args.form c.args.f.now (c.if-f-width.false
     ∙ c.width.ensures))
 
 pub returns : goal.returns
 returns c =
-    let q = c.field.ensures ∙ ap (λ s. decimal_of s c.args.f.now) c.shape_of.ensures
+    let q = c.shaped.ensures ∙ ap (λ s. decimal_of s c.args.f.now) c.shape_of.ensures
     ∙ sym (laws.wide c.args.form c.args.f.now
     (c.if-f-width.false ∙ c.width.ensures)) in
     record {

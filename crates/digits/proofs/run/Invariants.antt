@@ -6,10 +6,9 @@ use lib.Seq.{slice}
 use Rattle.digits.specs.Segments.{digits_of}
 use Rattle.digits.proofs.run.Given as goal
 
-abbrev pub invariant-loop-i : goal.invariant-loop-i
-invariant-loop-i l =
-    (l.i ≤ l.end) × (l.end ≤ length l.f) × (l.end ≤ l.i + 18) × (l.n < 10 ^ (l.i + 18 - l.end)) ×
-    (digits_of l.n (slice l.i l.end l.f) ≡ digits_of l.acc (slice l.at l.end l.f))
-
-abbrev pub decreases-loop-i : goal.decreases-loop-i
-decreases-loop-i l = l.end - l.i
+abbrev pub invariant-loop-c : goal.invariant-loop-c
+invariant-loop-c l = record {
+  few : length l.c-items ≤ 18;
+  fits : l.n < 10 ^ (l.c-index + 18 - length l.c-items);
+  same : digits_of l.n (slice l.c-index (length l.c-items) l.c-items) ≡ digits_of l.acc (slice l.at l.end l.f);
+}

@@ -4,7 +4,9 @@ use mathlib.Core.Path.{sym, ap, ◌∙◌}
 use Rattle.words.proofs.Laws.{within_true}
 use Rattle.plan.specs.declared.Due.{Due}
 use Rattle.lines.specs.View.{line_at}
-use Rattle.lines.specs.declared.View.TheVariants.{Refused}
+use Rattle.std.specs.Prelude.{Err}
+use Rattle.words.specs.declared.Refusal.{Refusal}
+use Rattle.lines.specs.declared.Unshown.TheVariants.{Refused}
 use Rattle.lines.proofs.ViewLaws as laws
 use Rattle.lines.proofs.line.Goals as goal
 
@@ -33,5 +35,5 @@ returns-then-within c =
 pub returns : goal.returns
 returns c =
     let args = c.args in
-    ap Refused c.bare.ensures
+    ap (λ (r : Refusal). Err (Refused r)) c.bare.ensures
     ∙ sym (laws.line_out args.p args.k args.bytes.now (sym c.within.ensures ∙ c.if-within.false))

@@ -17,7 +17,7 @@ pub overflow_add-result : goal.overflow_add-result
 overflow_add-result c = omega (
   arith,
   subst Near c.in-Fault.is
-      (subst Near (sym c.found-v.ensures) (laws.found_near _ _ _ _)),
+      (subst Near (sym c.found.ensures) (laws.found_near _ _ _ _)),
   c.requires.lined.1.start,
 )
 
@@ -26,17 +26,17 @@ returns-in-Fault c =
     let args = c.args in
     sym (laws.at_whole args.p args.k args.d args.bytes.now c.if-len-end.false
     ∙ ap (λ (v : Verdict). on_verdict v args.d.ordinal args.d.start
-    (shown_of args.p args.d.start (record_at args.d args.bytes.now))) (sym (c.found-v.ensures
+    (shown_of args.p args.d.start (record_at args.d args.bytes.now))) (sym (c.found.ensures
     ∙ ap (λ (r : List ℕ). found_in args.p args.k args.d r) (laws.part_is args.d.start args.d.length args.bytes.now))
     ∙ c.in-Fault.is))
 
 pub returns : goal.returns
 returns c =
     let args = c.args in
-    c.shown.ensures ∙ ap (λ (r : List ℕ). shown_of args.p args.d.start r)
+    c.shown_at.ensures ∙ ap (λ (r : List ℕ). shown_of args.p args.d.start r)
     (laws.part_is args.d.start args.d.length args.bytes.now)
     ∙ sym (laws.at_whole args.p args.k args.d args.bytes.now c.if-len-end.false
     ∙ ap (λ (v : Verdict). on_verdict v args.d.ordinal args.d.start
-    (shown_of args.p args.d.start (record_at args.d args.bytes.now))) (sym (c.found-v.ensures
+    (shown_of args.p args.d.start (record_at args.d args.bytes.now))) (sym (c.found.ensures
     ∙ ap (λ (r : List ℕ). found_in args.p args.k args.d r) (laws.part_is args.d.start args.d.length args.bytes.now))
     ∙ c.in_default.is))

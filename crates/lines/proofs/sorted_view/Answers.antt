@@ -3,7 +3,7 @@ use mathlib.Core.Path.{sym, ap, ◌∙◌, subst}
 use lib.Seq.{length-take-le}
 use Rattle.bodies.specs.declared.Found.{Found}
 use Rattle.lines.specs.View.{Lined}
-use Rattle.lines.specs.declared.View.{View}
+use Rattle.lines.specs.View.{View}
 use Rattle.lines.proofs.FirstLaws as first
 use Rattle.lines.proofs.sorted_view.Goals as goal
 

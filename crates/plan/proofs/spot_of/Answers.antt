@@ -19,7 +19,7 @@ returns-then-k-eq0 c =
 pub find-requires : goal.find-requires
 find-requires c =
     record {
-      small = subst₂ Small (sym c.runs_of-r.ensures.0) (sym c.runs_of-r.ensures.1)
+      small = subst₂ Small (sym c.runs_of.ensures.0) (sym c.runs_of.ensures.1)
           c.requires;
       at_bound = omega
           (arith, c.first_length-first.ensures, laws.first_bound c.args.kind);
@@ -30,8 +30,8 @@ returns c =
     record {
       value = c.find.ensures.value
           ∙ (rw (
-            c.runs_of-r.ensures.0,
-            c.runs_of-r.ensures.1,
+            c.runs_of.ensures.0,
+            c.runs_of.ensures.1,
             c.first_length-first.ensures,
           ))
           ∙ sym (laws.spot_later c.args.kind c.args.p

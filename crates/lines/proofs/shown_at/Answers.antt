@@ -8,9 +8,8 @@ use Rattle.plan.specs.Tables.{sort_of}
 use Rattle.plan.specs.Plan.{group_of}
 use Rattle.plan.specs.declared.Sort.{Sort}
 use Rattle.plan.proofs.CodeLaws.{sort_modest}
-use Rattle.lines.specs.View.{left_of, data_of, pixels_from, shown_of}
-use Rattle.lines.specs.declared.View.TheVariants.{Shown}
-use Rattle.lines.proofs.shown.Goals as goal
+use Rattle.lines.specs.View.{shown_view, left_of, data_of, pixels_from, shown_of}
+use Rattle.lines.proofs.shown_at.Goals as goal
 
 modest : (i : ℕ) (s : Sort) → s ≡ sort_of i → s.group ≤ 8
 modest i s e = omega (arith, (sort_modest i).0, ap (λ (x : Sort). x.group) e)
@@ -19,19 +18,19 @@ pub four_there-left-requires : goal.four_there-left-requires
 unfolding place_of
 four_there-left-requires c = omega (arith, c.place.ensures, c.requires.in_bounds)
 
-pub four_there-data-requires : goal.four_there-data-requires
+pub four_there-count-requires : goal.four_there-count-requires
 unfolding place_of
-four_there-data-requires c = omega (arith, c.place-2.ensures, c.requires.in_bounds)
+four_there-count-requires c = omega (arith, c.place-2.ensures, c.requires.in_bounds)
 
-pub overflow_mul-from : goal.overflow_mul-from
-overflow_mul-from c =
+pub overflow_mul-result : goal.overflow_mul-result
+overflow_mul-result c =
     let sort-at = c.sort_at-group in
     let left = c.four_there-left in
     let g = modest c.args.p.sort sort-at.result sort-at.ensures in
     omega (arith, mul-le-mul g left.ensures.upper_bound)
 
-pub overflow_add-from-2 : goal.overflow_add-from-2
-overflow_add-from-2 c =
+pub overflow_add-result-2 : goal.overflow_add-result-2
+overflow_add-result-2 c =
     let sort-at = c.sort_at-group in
     let left = c.four_there-left in
     let pre = c.requires in
@@ -44,10 +43,10 @@ returns c =
     let args = c.args in
     let r = args.r.now in
     let left = c.four_there-left in
-    let count = c.four_there-data in
+    let count = c.four_there-count in
     let from = c.pixels_from in
     let l : left.result ≡ left_of r = left.ensures.value ∙ ap (λ (i : ℕ). four_at r i) c.place.ensures in
     let d : count.result ≡ data_of r = count.ensures.value ∙ ap (λ (i : ℕ). four_at r i) c.place-2.ensures in
-    ap (λ (s : Sort). Shown (args.start + from.result + s.group * left.result) count.result left.result) c.sort_at-group.ensures
-    ∙ ap₂ (λ (n a : ℕ). Shown (args.start + n + group_of args.p * a) count.result a) from.ensures.0 l
-    ∙ ap (λ (b : ℕ). Shown (args.start + pixels_from args.p + group_of args.p * left_of r) b (left_of r)) d
+    ap (λ (s : Sort). shown_view (args.start + from.result + s.group * left.result) count.result left.result) c.sort_at-group.ensures
+    ∙ ap₂ (λ (n a : ℕ). shown_view (args.start + n + group_of args.p * a) count.result a) from.ensures.0 l
+    ∙ ap (λ (b : ℕ). shown_view (args.start + pixels_from args.p + group_of args.p * left_of r) b (left_of r)) d

@@ -1,9 +1,0 @@
--- The last column is the one that must hold a digit; each return is the definition under that test.
-use borrow.Author.Tests.{eq-eqb, ne_eqb}
-use Rattle.bad_byte.proofs.whole_column.Goals as goal
-
-pub returns-then-left-eq0 : goal.returns-then-left-eq0
-returns-then-left-eq0 c = rw (eq-eqb _ 0 c.if-left-eq0.true)
-
-pub returns : goal.returns
-returns c = rw (ne_eqb _ 0 c.if-left-eq0.false)
