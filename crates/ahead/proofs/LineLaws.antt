@@ -9,6 +9,7 @@ use native.Mathlib.Omega.{arith}
 use native.Mathlib.Nat.{zero-mul, suc-mul}
 use lib.ListN.{length, take, drop, length-drop}
 use lib.Seq.{drop-drop}
+use Rattle.std.specs.Prelude.{Ok}
 use lib.Dec.{ltb, eqb}
 use borrow.Author.Tests.{lt-ltb, le-ltb, ltb-true, ltb-false, eq-eqb, eqb-true, eqb-false}
 use Rattle.words.specs.Tests.{both_of}
@@ -19,7 +20,6 @@ use Rattle.plan.specs.Tables.{sort_of}
 use Rattle.plan.specs.Plan.{line_codes}
 use Rattle.plan.proofs.CodeLaws.{sort_code}
 use Rattle.verdicts.specs.Tests.{first_fault, all_hold}
-use Rattle.verdicts.specs.declared.Verdict.TheVariants.{Fine}
 use Rattle.verdicts.proofs.Holding.{all_fine}
 use Rattle.image.specs.Image.{line_tests}
 use Rattle.headers.specs.Header.{codes_are, header_tests, header_of}
@@ -74,8 +74,8 @@ codes_held b sort h₄ h₅ h₆ h₇ = go (eqb (four_at b 4) (codes_number sort
 
 pub record LineFine (sort w l k : ℕ) (b : List ℕ) : Type 0 where
   pub whole : l ≤ length b
-  pub head : header_of (k + 1) (line_codes sort) l b ≡ Fine
-  pub body : first_fault (line_tests w k (take l b)) ≡ Fine
+  pub head : header_of (k + 1) (line_codes sort) l b ≡ Ok tt
+  pub body : first_fault (line_tests w k (take l b)) ≡ Ok tt
 
 -- so do the c lines from line k on, end to end
 abbrev pub LinesFine : ℕ → ℕ → ℕ → ℕ → ℕ → List ℕ → Type 0

@@ -13,8 +13,7 @@ ghost use Rattle.ahead.specs.Lines.{codes_number, line_fine, lines_fine};
 fn codes_of(sort: u64) -> u64
     ensures { result ≡ codes_number sort }
 {
-    let row = plan::sort_at(sort);
-    (50 * 256 + row.code) * 65536 + (18 * 256 + 20)
+    (50 * 256 + plan::sort_at(sort).code) * 65536 + (18 * 256 + 20)
 }
 
 // A line's header on bytes that have come. The codes are compared at once: a sort's are known only as the
@@ -40,11 +39,9 @@ fn line_fine(sort: u64, codes: u64, w: u64, l: u64, k: u64, b: &[u8]) -> bool
     if l < 32 {
         return false;
     }
-    let due = l as usize;
-    let r = &b[..due];
     words::both(
         header_fine(sort, codes, l, k, b),
-        image::line_there(w, k, r),
+        image::line_there(w, k, &b[..l as usize]),
     )
 }
 
@@ -54,14 +51,12 @@ pub fn lines_ahead(sort: u64, w: u64, l: u64, k: u64, most: u64, b: &[u8]) -> u6
     ensures { result ≡ lines_fine sort w l k most b.now }
 {
     let codes = codes_of(sort);
-    let mut c: u64 = 0;
     let mut at: usize = 0;
-    while c < most {
+    for c in 0..most {
         if !line_fine(sort, codes, w, l, k + c, &b[at..]) {
             return c;
         }
         at += l as usize;
-        c += 1;
     }
-    c
+    most
 }

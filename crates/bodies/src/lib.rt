@@ -14,6 +14,7 @@ use verdicts::Verdict;
 use words::Refusal;
 
 // A directory's descriptor.
+#[tactic(auto, unfolding(crate::specs::Named::first_of, crate::specs::Named::plan_of, crate::specs::Bodies::first_tests, volume::specs::Volume::described_of))]
 fn of_volume(r: &[u8]) -> Result<Plan, Refusal>
     ensures { result ≡ first_of volume r.now }
 {
@@ -25,6 +26,7 @@ fn of_volume(r: &[u8]) -> Result<Plan, Refusal>
 }
 
 // A leader's descriptor.
+#[tactic(auto, unfolding(crate::specs::Named::first_of, crate::specs::Named::plan_of, crate::specs::Bodies::first_tests, leader::specs::Leader::described_of))]
 fn of_leader(r: &[u8]) -> Result<Plan, Refusal>
     ensures { result ≡ first_of leader r.now }
 {
@@ -37,6 +39,7 @@ fn of_leader(r: &[u8]) -> Result<Plan, Refusal>
 }
 
 // An image's descriptor.
+#[tactic(auto, unfolding(crate::specs::Named::first_of, crate::specs::Named::plan_of, crate::specs::Bodies::first_tests, image::specs::Image::described_of))]
 pub fn of_image(r: &[u8]) -> Result<Plan, Refusal>
     ensures { result ≡ first_of image r.now }
 {
@@ -53,6 +56,7 @@ pub fn of_image(r: &[u8]) -> Result<Plan, Refusal>
 }
 
 // A trailer, which names no numbers.
+#[tactic(auto, unfolding(crate::specs::Named::first_of, crate::specs::Named::plan_of, crate::specs::Bodies::first_tests, crate::specs::Bodies::trailer_tests))]
 fn of_trailer(r: &[u8]) -> Result<Plan, Refusal>
     ensures { result ≡ first_of trailer r.now }
 {
@@ -61,6 +65,7 @@ fn of_trailer(r: &[u8]) -> Result<Plan, Refusal>
 }
 
 // What the first record of a file of that kind names, read once: the plan, or its first fault.
+#[tactic(auto, unfolding(crate::specs::Named::first_of, crate::specs::Named::plan_of, crate::specs::Bodies::first_tests))]
 fn first(kind: u64, r: &[u8]) -> Result<Plan, Refusal>
     ensures { result ≡ first_of kind r.now }
 {
@@ -73,6 +78,7 @@ fn first(kind: u64, r: &[u8]) -> Result<Plan, Refusal>
 }
 
 // What is found in record k's body (k from 0), which is of that run and not the first.
+#[tactic(auto, unfolding(crate::specs::Bodies::body_of, crate::specs::Bodies::body_tests, crate::specs::Bodies::trailer_tests, image::specs::Image::image_record))]
 fn later(kind: u64, run: u64, p: Plan, k: u64, r: &[u8]) -> Verdict
     requires { run ≡ 0 → ⊥ }
     ensures { result ≡ body_of kind run p k r.now }
@@ -87,6 +93,7 @@ fn later(kind: u64, run: u64, p: Plan, k: u64, r: &[u8]) -> Verdict
 
 // What is found in record k's body (k from 0), which is of that run, run 0 being the first record: the plan
 // behind it, or its first fault. A first record names the plan; behind any other it is as it was.
+#[tactic(auto, unfolding(crate::specs::Named::found_of))]
 pub fn judge(kind: u64, run: u64, p: Plan, k: u64, r: &[u8]) -> Result<Plan, Refusal>
     ensures { result ≡ found_of kind run p k r.now }
 {

@@ -1,16 +1,17 @@
 -- What a call on a leader file answers and leaves behind, for arrays of any length: value v and answer a. Assumes nothing.
-use Rattle.std.specs.Prelude.{ℕ, List, ◌∷◌, Bool, leb, ℤ, length, drop, Ok, Err, Some, None}
+use Rattle.std.specs.Prelude.{ℕ, List, ◌∷◌, Bool, leb, ℤ, length, drop}
 use Rattle.words.specs.Tests.{pick, both_of}
 use Rattle.words.specs.Answer.{Answer, bare, refused_as, value, blank}
 use Rattle.fields.specs.Listed.{listed_field}
-use Rattle.fields.specs.Field.{Field}
+use Rattle.fields.specs.declared.Field.{Field}
+use Rattle.fields.specs.declared.Field.TheVariants.{Value, Blank, Refused}
 use Rattle.c_answer.specs.Room.{fits, behind, said}
 
 -- a field's answer: a value's two numbers go to the value array
 abbrev pub field_said : Field → Answer
-field_said (Ok (Some n)) = bare value
-field_said (Ok None) = bare blank
-field_said (Err r) = refused_as r
+field_said (Value m e) = bare value
+field_said Blank = bare blank
+field_said (Refused r) = refused_as r
 
 -- a value and an answer array have room
 abbrev pub value_room : List ℤ → List ℕ → Bool
@@ -18,9 +19,9 @@ value_room v answer = both_of (leb 2 (length v)) (fits 5 answer)
 
 -- the value array, which has room, behind what a field says: number and exponent of a value; all stay otherwise
 abbrev pub value_by : Field → List ℤ → List ℤ
-value_by (Ok (Some n)) v = n.units ∷ n.exponent ∷ drop 2 v
-value_by (Ok None) v = v
-value_by (Err r) v = v
+value_by (Value m e) v = m ∷ e ∷ drop 2 v
+value_by Blank v = v
+value_by (Refused r) v = v
 
 -- the value array behind the call
 abbrev pub field_value : ℕ → List ℕ → List ℤ → List ℕ → List ℤ

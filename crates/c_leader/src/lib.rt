@@ -10,19 +10,17 @@ ghost use Rattle.c_leader.specs.Calls.{field_said, value_room, value_by, field_v
 use c_answer::Reply;
 use fields::Field;
 
-// How many numbers a value and an answer have.
+// How many numbers a value has.
 const VALUE: usize = 2;
-
-const ANSWER: usize = c_answer::NUMBERS;
 
 // What a field says; its value goes another way.
 fn field_reply(x: Field) -> Reply
     ensures { result ≡ reply_of (field_said x) 0 }
 {
     match x {
-        Ok(Some(_)) => c_answer::brief(5, 0, 0),
-        Ok(None) => c_answer::brief(6, 0, 0),
-        Err(r) => c_answer::refusal(r, 0),
+        Field::Value(_, _) => c_answer::brief(5, 0, 0),
+        Field::Blank => c_answer::brief(6, 0, 0),
+        Field::Refused(r) => c_answer::refusal(r, 0),
     }
 }
 
@@ -31,9 +29,9 @@ fn put_value(x: Field, value: &mut [i64])
     requires { 2 ≤ length value.old }
     ensures { value.new ≡ value_by x value.old }
 {
-    if let Ok(Some(number)) = x {
-        value[0] = number.units;
-        value[1] = number.exponent;
+    if let Field::Value(m, e) = x {
+        value[0] = m;
+        value[1] = e;
     }
 }
 
@@ -46,11 +44,12 @@ pub fn sbg_field(bytes: &[u8], number: u64, value: &mut [i64], answer: &mut [u64
     if value.len() < VALUE {
         return 0;
     }
-    if answer.len() < ANSWER {
-        return 0;
-    }
-    let x = fields::listed_field(bytes, number);
-    put_value(x, value);
-    c_answer::say(field_reply(x), answer);
-    1
+    c_answer::answer_with(
+        answer,
+        &mut || {
+            let x = fields::listed_field(bytes, number);
+            put_value(x, value);
+            field_reply(x)
+        },
+    )
 }

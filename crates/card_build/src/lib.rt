@@ -34,6 +34,7 @@ fn named(kind: u64, bytes: &[u8]) -> Result<Plan, Refusal>
 }
 
 // Two numbers of four bytes each.
+#[tactic(auto, using(writing::proofs::WrittenLaws::written_on))]
 fn put_two(out: &mut [u8], at: usize, a: u64, b: u64)
     requires { at + 8 ≤ length out.old }
     ensures { out.new ≡ written out.old at (four_of a ++ four_of b) }
@@ -63,6 +64,7 @@ fn put_line(out: &mut [u8], at: usize, k: u64, left: u64, count: u64)
 }
 
 // Kind 3: the leader record's ordinal, start and length.
+#[tactic(auto, using(crate::proofs::BuildLaws::leader_put))]
 fn put_leader(out: &mut [u8], at: usize, k: u64, start: u64, long: u64)
     requires { at + 10 ≤ length out.old }
     ensures { out.new ≡ written out.old at (leader_bytes k start long) }

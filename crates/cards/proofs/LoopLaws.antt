@@ -32,7 +32,8 @@ pub rest_is : (b : List ℕ) (at : ℕ) → rest b at ≡ drop at b
 rest_is b at = take_all (length b - at) (drop at b) (omega (arith, length-drop at b))
 
 -- an entry's own refusal is that of whatever is judged behind it, and without one nothing is wrong with the entry
-pub judged_err : {A : Type 0} (f : Result (Unit {0}) ℕ) (at : ℕ) (on : Result A Refusal) (r : Refusal) → judged {A = Unit {0}} f at (Ok tt) ≡ Err r → judged f at on ≡ Err r
+pub judged_err : {A : Type 0} (f : Result (Unit {0}) ℕ) (at : ℕ) (on : Result A Refusal) (r : Refusal) → judged {A = Unit {0}} f at (Ok tt) ≡ Err r
+    → judged f at on ≡ Err r
 judged_err (Ok u) at on r e = absurd cc
 judged_err (Err m) at on r e = let p : refusal_at m at ≡ r = cc in ap Err p
 

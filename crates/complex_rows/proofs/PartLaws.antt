@@ -7,7 +7,7 @@ use native.Mathlib.Omega.{arith}
 use native.Mathlib.Nat.{add-zero}
 use lib.Dec.{ltb}
 use lib.ListN.{length, get_or, set, drop}
-use lib.Seq.{set_at, drop-cons, append_snoc}
+use Rattle.std.proofs.lemmas.List.{ext_get_or}
 use borrow.Author.Tests.{lt-ltb, le-ltb}
 use Rattle.words.specs.Tests.{pick}
 use Rattle.words.specs.Words.{four_at}
@@ -28,32 +28,19 @@ unfolding fours
 length_fours bs at zero = refl
 length_fours bs at (suc n) = ap suc (length_fours bs (at + 4) n)
 
-fours_more : (bs : List ℕ) (at n : ℕ) → fours bs at (suc n) ≡ fours bs at n ++ (four_at bs (at + 4 * n) ∷ [])
+-- number i of them
+four_of : (bs : List ℕ) (at n i : ℕ) → i < n → get_or (fours bs at n) i 0 ≡ four_at bs (at + 4 * i)
 unfolding fours
-fours_more bs at zero = ap (λ (i : ℕ). four_at bs i ∷ []) (let e : at ≡ at + 4 * 0 = omega arith in e)
-fours_more bs at (suc n) =
-    ap (λ (l : List ℕ). four_at bs at ∷ l)
-    (fours_more bs (at + 4) n ∙ ap (λ (i : ℕ). fours bs (at + 4) n ++ (four_at bs i ∷ [])) (let e : at + 4 + 4 * n ≡ at + 4 * suc n = omega arith in e))
+four_of bs at zero i h = absurd (omega arith)
+four_of bs at (suc n) zero h = ap (λ (k : ℕ). four_at bs k) (sym (add-zero at))
+four_of bs at (suc n) (suc i) h =
+    four_of bs (at + 4) n i (omega arith) ∙ ap (λ (k : ℕ). four_at bs k) (let e : at + 4 + 4 * i ≡ at + 4 * suc i = omega arith in e)
 
--- a row whose first n numbers are written takes the next, and has m then
-pub row_more : (bs : List ℕ) (at n m v : ℕ) (row now : List ℕ) → n < length row → m ≡ n + 1 → now ≡ fours bs at n ++ drop n row → v ≡ four_at bs (at + 4 * n)
-    → set now n v ≡ fours bs at m ++ drop m row
-row_more bs at n m v row now h a q e =
-    ap (λ (l : List ℕ). set l n v) q
-    ∙ ap (λ (l : List ℕ). set (fours bs at n ++ l) n v) (drop-cons row n 0 h)
-    ∙ set_at (fours bs at n) (get_or row n 0) (drop (suc n) row) v n (length_fours bs at n)
-    ∙ sym (append_snoc (fours bs at n) v (drop (suc n) row))
-    ∙ ap (λ (x : ℕ). (fours bs at n ++ (x ∷ [])) ++ drop (suc n) row) e
-    ∙ ap (λ (l : List ℕ). l ++ drop (suc n) row) (sym (fours_more bs at n))
-    ∙ ap (λ (i : ℕ). fours bs at i ++ drop i row) (let s : suc n ≡ m = omega (arith, a) in s)
-
-pub row_all : (bs : List ℕ) (at n count : ℕ) (row now : List ℕ) → n ≤ count → count ≤ n → now ≡ fours bs at n ++ drop n row
-    → now ≡ fours bs at count ++ drop count row
-row_all bs at n count row now a b q = q ∙ ap (λ (m : ℕ). fours bs at m ++ drop m row) (let e : n ≡ count = omega arith in e)
-
-pub row_none : (bs : List ℕ) (at : ℕ) (row : List ℕ) → row ≡ fours bs at 0 ++ drop 0 row
-unfolding fours
-row_none bs at row = refl
+-- numbers each of which is that number are the numbers
+pub fours_are : (n : ℕ) (bs : List ℕ) (at : ℕ) (row : List ℕ) → length row ≡ n → ((k : ℕ) → k < n → get_or row k 0 ≡ four_at bs (at + 4 * k)) → row ≡ fours bs at n
+fours_are n bs at row long each =
+    ext_get_or 0 row (fours bs at n) (long ∙ sym (length_fours bs at n))
+    (λ i h. let below : i < n = omega arith in each i below ∙ sym (four_of bs at n i below))
 
 -- ---- two numbers a sample
 

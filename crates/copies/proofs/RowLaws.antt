@@ -5,7 +5,7 @@ use mathlib.Core.List.{List, [], ◌∷◌, ◌++◌}
 use native.Mathlib.Omega.{arith}
 use native.Mathlib.Nat.{add-zero, zero-add}
 use lib.ListN.{length, get_or, set, take, drop}
-use lib.Seq.{set_at, drop-cons, append_snoc}
+use Rattle.std.proofs.lemmas.List.{ext_get_or}
 use borrow.Author.Tests.{lt-ltb, le-ltb, eq-eqb, ne_eqb}
 use Rattle.words.specs.Words.{two_at}
 use Rattle.words.specs.Answer.{bare_refusal}
@@ -24,14 +24,6 @@ unfolding samples_from
 length_samples j zero px = refl
 length_samples j (suc n) px = ap suc (length_samples (suc j) n px)
 
--- one sample more
-samples_more : (j n : ℕ) (px : List ℕ) → samples_from j (suc n) px ≡ samples_from j n px ++ (two_at px (2 * (j + n)) ∷ [])
-unfolding samples_from
-samples_more j zero px = ap (λ (i : ℕ). two_at px (2 * i) ∷ []) (sym (add-zero j))
-samples_more j (suc n) px =
-    ap (λ (l : List ℕ). two_at px (2 * j) ∷ l)
-    (samples_more (suc j) n px ∙ ap (λ (i : ℕ). samples_from (suc j) n px ++ (two_at px (2 * i) ∷ [])) (let e : suc j + n ≡ j + suc n = omega arith in e))
-
 -- sample i of them
 pub sample_at_lem : (j n i : ℕ) (px : List ℕ) → i < n → get_or (samples_from j n px) i 0 ≡ two_at px (2 * (j + i))
 unfolding samples_from
@@ -40,24 +32,12 @@ sample_at_lem j (suc n) zero px h = ap (λ (i : ℕ). two_at px (2 * i)) (sym (a
 sample_at_lem j (suc n) (suc i) px h =
     sample_at_lem (suc j) n i px (omega arith) ∙ ap (λ (m : ℕ). two_at px (2 * m)) (let e : suc j + i ≡ j + suc i = omega arith in e)
 
--- a row whose first n samples are written takes the next, and has m then
-pub row_more : (n m at v : ℕ) (px row now : List ℕ) → n < length row → m ≡ n + 1 → at ≡ 2 * n → now ≡ samples n px ++ drop n row → v ≡ two_at px at
-    → set now n v ≡ samples m px ++ drop m row
-row_more n m at v px row now h a g q e =
-    ap (λ (l : List ℕ). set l n v) q
-    ∙ ap (λ (l : List ℕ). set (samples n px ++ l) n v) (drop-cons row n 0 h)
-    ∙ set_at (samples n px) (get_or row n 0) (drop (suc n) row) v n (length_samples 0 n px)
-    ∙ sym (append_snoc (samples n px) v (drop (suc n) row))
-    ∙ ap (λ (x : ℕ). (samples n px ++ (x ∷ [])) ++ drop (suc n) row) (e ∙ ap (λ (i : ℕ). two_at px i) (g ∙ ap (λ (i : ℕ). 2 * i) (sym (zero-add n))))
-    ∙ ap (λ (l : List ℕ). l ++ drop (suc n) row) (sym (samples_more 0 n px))
-    ∙ ap (λ (i : ℕ). samples i px ++ drop i row) (let s : suc n ≡ m = omega (arith, a) in s)
-
-pub row_all : (n count : ℕ) (px row now : List ℕ) → n ≤ count → count ≤ n → now ≡ samples n px ++ drop n row → now ≡ samples count px ++ drop count row
-row_all n count px row now a b q = q ∙ ap (λ (m : ℕ). samples m px ++ drop m row) (let e : n ≡ count = omega arith in e)
-
-pub row_none : (px row : List ℕ) → row ≡ samples 0 px ++ drop 0 row
-unfolding samples_from
-row_none px row = refl
+-- numbers each of which is that sample are the samples
+pub samples_are : (n : ℕ) (px row : List ℕ) → length row ≡ n → ((k : ℕ) → k < n → get_or row k 0 ≡ two_at px (2 * k)) → row ≡ samples n px
+samples_are n px row long each =
+    ext_get_or 0 row (samples n px) (long ∙ sym (length_samples 0 n px))
+    (λ i h. let below : i < n = omega arith in
+    each i below ∙ sym (sample_at_lem 0 n i px below ∙ ap (λ (m : ℕ). two_at px (2 * m)) (zero-add i)))
 
 -- ---- the copy by what the view shows
 
@@ -77,9 +57,6 @@ module _ (bs : List ℕ) (k : ℕ) (row : List ℕ) (x : Sorted) (sees : x ≡ s
   row_is : (v : View) → x.view ≡ v → row_of bs k row ≡ row_by v x.sort bs row
   unfolding row_of
   row_is v e = ap (λ (y : Sorted). row_by y.view y.sort bs row) (sym sees) ∙ ap (λ (y : View). row_by y x.sort bs row) e
-
-  pub copy_unshown : (y : Unshown) → x.view ≡ Err y → (Err y ≡ copied_of bs k (length row)) × (row ≡ row_of bs k row)
-  copy_unshown y e = (sym (copied_is (Err y) e), sym (row_is (Err y) e))
 
   module _ (y : Shown) (e : x.view ≡ Ok y) where
     pub copy_sort : (x.sort ≡ 0 → ⊥) → (Err (Refused (bare_refusal 23)) ≡ copied_of bs k (length row)) × (row ≡ row_of bs k row)

@@ -11,24 +11,12 @@ use lines::Unshown;
 // What the row copy answers: how many samples were copied; or a wait or a refusal, and nothing was.
 pub type Copied = Result<u64, Unshown>;
 
-// Two bytes that are there, low byte first: the compiler reads them at once. Read and swapped by one
-// function they would be read one by one (docs/SPEED.md).
-fn pair(px: &[u8], at: usize) -> u16
-    requires { at + 2 ≤ length px.now }
-    ensures { result % 256 * 256 + result / 256 ≡ two_at px.now at }
-{
-    let low = px[at];
-    let high = px[at + 1];
-    high as u16 * 256 + low as u16
-}
-
 // A sample of two bytes that are there, high byte first.
 fn sample(px: &[u8], at: usize) -> u16
     requires { at + 2 ≤ length px.now }
     ensures { result ≡ two_at px.now at }
 {
-    let x = pair(px, at);
-    x % 256 * 256 + x / 256
+    u16::from_be_bytes([px[at], px[at + 1]])
 }
 
 // That many samples of two bytes, high byte first, to the row's start; later samples stay.
@@ -36,10 +24,8 @@ fn write(px: &[u8], count: usize, row: &mut [u16])
     requires { (2 * count ≤ length px.now) × (count ≤ length row.old) }
     ensures { row.new ≡ samples count px.now ++ drop count row.old }
 {
-    let mut j = 0;
-    while j < count {
-        row[j] = sample(px, 2 * j);
-        j += 1;
+    for (j, x) in row[..count].iter_mut().enumerate() {
+        *x = sample(px, 2 * j);
     }
 }
 

@@ -2,7 +2,6 @@
 use Prim.Native.Nat.{ℕ, zero-le, ◌+◌, ◌-◌, ◌*◌, ◌^◌, ◌≤◌, ◌<◌}
 use mathlib.Core.Path.{◌≡◌, refl, sym, ap, ◌∙◌, subst}
 use mathlib.Core.List.{List, [], ◌∷◌}
-use mathlib.Core.Logic.{◌⊎◌, inl, inr}
 use mathlib.Core.Bool.{Bool, true, false}
 use Rattle.std.proofs.Common.{Option, Some, None}
 use native.Mathlib.Numerals.{add-one}
@@ -12,7 +11,7 @@ use native.Mathlib.Omega.{arith}
 use lib.ListN.{length, get_or, take, drop, length-drop}
 use lib.Seq.{slice, slice-cons, slice_empty, length-slice, take-length, length-take-le}
 use Rattle.std.proofs.lemmas.List.{drop-take}
-use borrow.Author.Tests.{eq-eqb, ne_eqb, eqb-false, le-leb, lt-leb}
+use borrow.Author.Tests.{ne_eqb, eqb-false, le-leb}
 use Rattle.words.specs.Tests.{pick}
 use Rattle.words.proofs.Laws.{within_true}
 use Rattle.digits.specs.Segments.{after_blanks, digit?, digits_of, Under, Small, with_sign, sign_of, signs, signed_digits, exponent_of, Is}
@@ -30,16 +29,6 @@ length_part f at end h = length-take-le (end - at) (drop at f) (omega (arith, le
 module _ (f : List ℕ) (i end : ℕ) (h : i < end) (k : end ≤ length f) where
   pub one : slice i end f ≡ get_or f i 0 ∷ slice (i + 1) end f
   one = rw (add-one, slice-cons i end f 0 h k)
-
-  pub skip_stop : (get_or f i 0 ≡ 32 → ⊥) → slice i end f ≡ after_blanks (slice i end f)
-  skip_stop n = rw (one, ne_eqb (get_or f i 0) 32 n)
-
-  pub skip_more : get_or f i 0 ≡ 32 → after_blanks (slice i end f) ≡ after_blanks (slice (i + 1) end f)
-  skip_more e = rw (one, eq-eqb (get_or f i 0) 32 e)
-
-  pub run_off : (a : ℕ) → (get_or f i 0 < 48) ⊎ ((48 ≤ get_or f i 0) × (57 < get_or f i 0)) → digits_of a (slice i end f) ≡ None
-  run_off a (inl l) = rw (one, lt-leb 48 (get_or f i 0) l)
-  run_off a (inr l) = rw (one, le-leb 48 (get_or f i 0) l.0, lt-leb (get_or f i 0) 57 l.1)
 
   pub run_more : (a : ℕ) → 48 ≤ get_or f i 0 → get_or f i 0 ≤ 57 → digits_of a (slice i end f) ≡ digits_of (a * 10 + (get_or f i 0 - 48)) (slice (i + 1) end f)
   run_more a l m = rw (one, le-leb 48 (get_or f i 0) l, le-leb (get_or f i 0) 57 m)
@@ -61,12 +50,6 @@ room k {a} {i} h l = let p : 10 ^ i ≤ 10 ^ k = pow-le-pow_right (omega arith) 
 module _ (f : List ℕ) (i end : ℕ) (h : i ≤ end) (k : end ≤ i) where
   pub none : slice i end f ≡ []
   none = let e : i ≡ end = omega arith in rw e (slice_empty end f)
-
-  pub skip_done : slice i end f ≡ after_blanks (slice i end f)
-  skip_done = rw none
-
-  pub run_done : (a : ℕ) → digits_of a (slice i end f) ≡ Some a
-  run_done a = rw none
 
 pub none_yet : (i : ℕ) → 0 < 10 ^ i
 none_yet i = let p : 10 ^ 0 ≤ 10 ^ i = pow-le-pow_right (omega arith) zero-le in omega arith

@@ -8,15 +8,14 @@ use lib.Dec.{ltb}
 use lib.ListN.{length, take, drop, length-drop, length-take}
 use lib.Seq.{length-take-le}
 use mathlib.Core.Bool.{Bool, true, false, false≢true}
-use borrow.Author.Tests.{lt-ltb, le-ltb, ltb-true, ltb-false}
+use borrow.Author.Tests.{lt-ltb, le-ltb, ltb-false}
+use Rattle.std.proofs.Common.{Some, None, Ok, Err}
 use Rattle.words.specs.Tests.{pick, within_of}
 use Rattle.words.specs.Words.{place_of}
 use Rattle.decimal.specs.Forms.{width_of, shape_of}
 use Rattle.decimal.specs.Scan.{written, decimal_of}
 use Rattle.decimal.specs.declared.Form.{Form}
-use Rattle.decimal.specs.declared.Shape.{Shape}
-use Rattle.decimal.specs.declared.Written.{Written}
-use Rattle.decimal.specs.declared.Written.TheVariants.{Number, Blank as Blank', Bad}
+use Rattle.decimal.specs.Written.{Written}
 use Rattle.decimal.proofs.Laws.{wide}
 use Rattle.bad_byte.proofs.Named.{at_most}
 use Rattle.fields.specs.Shaped.{shaped_at}
@@ -44,24 +43,6 @@ module _ (b : List ℕ) (n : ℕ) where
   pub inside : within_of 1 n 13 ≡ true → listed_field b n ≡ field_at b (place_of (listed (n - 1)).first) (listed (n - 1)).form
   unfolding listed_field
   inside e = rw e
-
--- the bytes end before the field does, tested without a sum that might wrap
-pub same_test : (l at n : ℕ) → n ≤ l → ltb (l - n) at ≡ ltb l (at + n)
-same_test l at n h = go (ltb (l - n) at) refl
-  where
-    go : (t : Bool) → ltb (l - n) at ≡ t → t ≡ ltb l (at + n)
-    go true e = let q = ltb-true (l - n) at e in sym (lt-ltb l (at + n) (omega (arith, q)))
-    go false e = let q = ltb-false (l - n) at e in sym (le-ltb l (at + n) (omega (arith, q)))
-
--- a field of some width and shape: short or not
-module _ (b : List ℕ) (at n : ℕ) (s : Shape) where
-  pub shaped_short : ltb (length b) (at + n) ≡ true → shaped_at b at n s ≡ refuse 2 0
-  unfolding shaped_at
-  shaped_short e = rw e
-
-  pub shaped_there : ltb (length b) (at + n) ≡ false → shaped_at b at n s ≡ from_written at (decimal_of s (take (at + n - at) (drop at b)))
-  unfolding shaped_at
-  shaped_there e = let q : at + n - at ≡ n = omega arith in rw (e, q)
 
 -- a form's field is one of its width and shape
 pub shaped : (b : List ℕ) (at : ℕ) (k : Form) → shaped_at b at (width_of k) (shape_of k) ≡ rough_at b at k
@@ -94,9 +75,9 @@ module _ (b : List ℕ) (at : ℕ) (k : Form) where
       go : (t : Bool) (w : Written) → badly? (pick t (refuse 2 0) (from_written at w)) ≡ true
           → refuse 6 (bad_place b at k) ≡ pick t (refuse 2 0) (from_written (bad_place b at k) w)
       go true w q = absurd (false≢true q)
-      go false (Number m e) q = absurd (false≢true q)
-      go false Blank' q = absurd (false≢true q)
-      go false Bad q = refl
+      go false (Ok (Some x)) q = absurd (false≢true q)
+      go false (Ok None) q = absurd (false≢true q)
+      go false (Err x) q = refl
 
   pub kept : badly? (rough_at b at k) ≡ false → rough_at b at k ≡ field_at b at k
   unfolding rough_at field_at
@@ -105,9 +86,9 @@ module _ (b : List ℕ) (at : ℕ) (k : Form) where
       go : (t : Bool) (w : Written) → badly? (pick t (refuse 2 0) (from_written at w)) ≡ false
           → pick t (refuse 2 0) (from_written at w) ≡ pick t (refuse 2 0) (from_written (bad_place b at k) w)
       go true w q = refl
-      go false (Number m e) q = refl
-      go false Blank' q = refl
-      go false Bad q = absurd (false≢true (sym q))
+      go false (Ok (Some x)) q = refl
+      go false (Ok None) q = refl
+      go false (Err x) q = absurd (false≢true (sym q))
 
 -- a field that is blank is there
 pub blank_there : (b : List ℕ) (at : ℕ) (k : Form) → field_at b at k ≡ Blank → at + width_of k ≤ length b

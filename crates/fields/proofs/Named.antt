@@ -11,6 +11,7 @@ use lib.ListN.{length, replicate, length-replicate, drop, length-drop}
 use lib.Seq.{length-take-le}
 use lib.IntN.{ℤ}
 use borrow.Author.Tests.{ltb-true, ltb-false}
+use Rattle.std.proofs.Common.{Some, None, Ok, Err}
 use Rattle.words.specs.Words.{place_of}
 use Rattle.words.specs.Tests.{within_of}
 use Rattle.words.proofs.Laws.{within_true, within_false}
@@ -21,8 +22,7 @@ use Rattle.decimal.specs.Grammar.{Good, blank as blanks, whole, fixed, expo, Mea
 use Rattle.decimal.specs.Grammar as grammar
 use Rattle.decimal.specs.declared.Form.{Form}
 use Rattle.decimal.specs.declared.Shape.{Shape}
-use Rattle.decimal.specs.declared.Written.{Written}
-use Rattle.decimal.specs.declared.Written.TheVariants.{Number, Blank, Bad}
+use Rattle.decimal.specs.Written.{Written, number_written, blank as blank_written, badly as badly_written}
 use Rattle.decimal.proofs.Answer.{says, reads, never}
 use Rattle.bad_byte.specs.BadByte.{BadAt}
 use Rattle.bad_byte.specs.Columns.{bad_in}
@@ -43,26 +43,30 @@ numbers_of_lem : {a b : Answer} → a ≡ b → a.numbers ≡ b.numbers
 numbers_of_lem q = ap (λ (x : Answer). x.numbers) q
 
 -- what is written, in a field's words, leaves one case each
-value_of : (at : ℕ) (w : Written) (m e : ℤ) → field_as (from_written at w) ≡ valued m e → w ≡ Number m e
-value_of at (Number m' e') m e q = let n = numbers_of_lem q in cc
-value_of at Blank m e q = let w = word_of q in cc
-value_of at Bad m e q = let w = word_of q in cc
+value_of : (at : ℕ) (w : Written) (m e : ℤ) → field_as (from_written at w) ≡ valued m e → w ≡ number_written m e
+value_of at (Ok (Some x)) m e q =
+    let n = numbers_of_lem q in
+    let u : x.units ≡ m = cc in
+    let v : x.exponent ≡ e = cc in
+    ap (λ (i : ℤ). number_written i x.exponent) u ∙ ap (number_written m) v
+value_of at (Ok None) m e q = let w = word_of q in cc
+value_of at (Err x) m e q = let w = word_of q in cc
 
-blank_of : (at : ℕ) (w : Written) → field_as (from_written at w) ≡ bare blank → w ≡ Blank
-blank_of at (Number m' e') q = let w = word_of q in cc
-blank_of at Blank q = refl
-blank_of at Bad q = let w = word_of q in cc
+blank_of : (at : ℕ) (w : Written) → field_as (from_written at w) ≡ bare blank → w ≡ blank_written
+blank_of at (Ok (Some x)) q = let w = word_of q in cc
+blank_of at (Ok None) q = refl
+blank_of at (Err x) q = let w = word_of q in cc
 
-bad_of : (at : ℕ) (w : Written) (p : ℕ) → field_as (from_written at w) ≡ refusal 6 p → (w ≡ Bad) × (at ≡ p)
-bad_of at (Number m' e') p q = let w = word_of q in absurd (let z : ◌≡◌ {A = ℕ} 0 1 = cc in omega arith)
-bad_of at Blank p q = let w = word_of q in absurd (let z : ◌≡◌ {A = ℕ} 0 1 = cc in omega arith)
-bad_of at Bad p q = let w = numbers_of_lem q in (refl, cc)
+bad_of : (at : ℕ) (w : Written) (p : ℕ) → field_as (from_written at w) ≡ refusal 6 p → (w ≡ badly_written) × (at ≡ p)
+bad_of at (Ok (Some x)) p q = let w = word_of q in absurd (let z : ◌≡◌ {A = ℕ} 0 1 = cc in omega arith)
+bad_of at (Ok None) p q = let w = word_of q in absurd (let z : ◌≡◌ {A = ℕ} 0 1 = cc in omega arith)
+bad_of at (Err x) p q = let w = numbers_of_lem q in (refl, cc)
 
 -- nothing that is written is a refusal of another number
 other_of : (at : ℕ) (w : Written) (n p : ℕ) → (n ≡ 6 → ⊥) → field_as (from_written at w) ≡ refusal n p → ⊥
-other_of at (Number m e) n p h q = let w = word_of q in let z : ◌≡◌ {A = ℕ} 0 1 = cc in omega arith
-other_of at Blank n p h q = let w = word_of q in let z : ◌≡◌ {A = ℕ} 0 1 = cc in omega arith
-other_of at Bad n p h q = let w = numbers_of_lem q in h cc
+other_of at (Ok (Some x)) n p h q = let w = word_of q in let z : ◌≡◌ {A = ℕ} 0 1 = cc in omega arith
+other_of at (Ok None) n p h q = let w = word_of q in let z : ◌≡◌ {A = ℕ} 0 1 = cc in omega arith
+other_of at (Err x) n p h q = let w = numbers_of_lem q in h cc
 
 -- a refusal is no value and not blank, and two refusals that are the same have the same number
 refusal_value : (n p : ℕ) (m e : ℤ) → refusal n p ≡ valued m e → ⊥
@@ -75,7 +79,7 @@ refusal_number : (n p n' p' : ℕ) → refusal n p ≡ refusal n' p' → n ≡ n
 refusal_number n p n' p' q = let w = numbers_of_lem q in cc
 
 -- all that is blank, and nothing else, is a blank field
-all_blank : {s : Shape} {bs : List ℕ} {r : Written} → Good true s bs r → r ≡ Blank → bs ≡ replicate (length bs) 32
+all_blank : {s : Shape} {bs : List ℕ} {r : Written} → Good true s bs r → r ≡ blank_written → bs ≡ replicate (length bs) 32
 all_blank (blanks s n) e = ap (λ (i : ℕ). replicate i 32) (sym (length-replicate {A = ℕ} n 32))
 all_blank (whole w) e = cc
 all_blank (fixed w) e = cc
@@ -83,19 +87,19 @@ all_blank (expo w g ds n l) e = cc
 
 module _ (k : Form) (bs : List ℕ) where
   -- what was read, unless it is bad, is in the grammar
-  of_read : (r : Written) → written k bs ≡ r → (r ≡ Bad → ⊥) → grammar.WellWritten k bs r
+  of_read : (r : Written) → written k bs ≡ r → (r ≡ badly_written → ⊥) → grammar.WellWritten k bs r
   of_read r e n = go (written k bs) e (says k bs)
     where
       go : (x : Written) → x ≡ r → Means k bs x → grammar.WellWritten k bs r
       go x q (well f) = subst (grammar.WellWritten k bs) q f
       go x q (badly m) = absurd (n (sym q))
 
-  none_of : written k bs ≡ Bad → (r : Written) → grammar.WellWritten k bs r → ⊥
+  none_of : written k bs ≡ badly_written → (r : Written) → grammar.WellWritten k bs r → ⊥
   none_of e r f = never f.1 (sym (reads k bs r f) ∙ e)
 
 -- A field whose bytes are all there. `grammar.WellWritten k bs r` says that the bytes bs are well written with the form k and say r.
 pub record Named (b : List ℕ) (at : ℕ) (k : Form) : Type 0 where
-  pub value : (m e : ℤ) → (field_as (field_at b at k) ≡ valued m e) ↔ grammar.WellWritten k (field_bytes b at k) (Number m e)
+  pub value : (m e : ℤ) → (field_as (field_at b at k) ≡ valued m e) ↔ grammar.WellWritten k (field_bytes b at k) (number_written m e)
   pub blanked : (field_as (field_at b at k) ≡ bare blank) ↔ (field_bytes b at k ≡ replicate (width_of k) 32)
   pub refused : (p : ℕ) → (field_as (field_at b at k) ≡ refusal 6 p) ↔ ((i : ℕ) × (p ≡ at + i) × BadAt (shape_of k) (width_of k) (field_bytes b at k) i)
   pub either : ((p : ℕ) × (field_as (field_at b at k) ≡ refusal 6 p)) ↔ ((r : Written) → grammar.WellWritten k (field_bytes b at k) r → ⊥)
@@ -113,15 +117,15 @@ module _ (b : List ℕ) (at : ℕ) (k : Form) (here : at + width_of k ≤ length
   answered e = told ∙ ap (λ (w : Written). field_as (from_written (bad_place b at k) w)) e
 
   -- where nothing is well written, that is what is read
-  nothing : ((r : Written) → grammar.WellWritten k (field_bytes b at k) r → ⊥) → written k (field_bytes b at k) ≡ Bad
+  nothing : ((r : Written) → grammar.WellWritten k (field_bytes b at k) r → ⊥) → written k (field_bytes b at k) ≡ badly_written
   nothing n = go (written k (field_bytes b at k)) (says k (field_bytes b at k))
     where
-      go : (x : Written) → Means k (field_bytes b at k) x → x ≡ Bad
+      go : (x : Written) → Means k (field_bytes b at k) x → x ≡ badly_written
       go x (well f) = absurd (n x f)
       go x (badly m) = refl
 
   -- the place of a 6 is that of the first bad byte
-  pointed : written k (field_bytes b at k) ≡ Bad → BadAt (shape_of k) (width_of k) (field_bytes b at k) (bad_in (shape_of k) (field_bytes b at k))
+  pointed : written k (field_bytes b at k) ≡ badly_written → BadAt (shape_of k) (width_of k) (field_bytes b at k) (bad_in (shape_of k) (field_bytes b at k))
   pointed e =
       subst (λ (n : ℕ). BadAt (shape_of k) n (field_bytes b at k) (bad_in (shape_of k) (field_bytes b at k))) bs_length
       (bad_named (shape_of k) (field_bytes b at k) (λ r g. none_of k (field_bytes b at k) e r (bs_length, g)))
@@ -145,17 +149,17 @@ module _ (b : List ℕ) (at : ℕ) (k : Form) (here : at + width_of k ≤ length
   field_named =
       record {
         value = λ m e. (
-          λ q. of_read k (field_bytes b at k) (Number m e) (value_of (bad_place b at k) _ m e (sym told ∙ q))
+          λ q. of_read k (field_bytes b at k) (number_written m e) (value_of (bad_place b at k) _ m e (sym told ∙ q))
               (λ z. let c : ◌≡◌ {A = ℕ} 0 1 = cc in omega arith),
-          λ f. answered (reads k (field_bytes b at k) (Number m e) f),
+          λ f. answered (reads k (field_bytes b at k) (number_written m e) f),
         );
         blanked = (
           λ q.
-              let f = of_read k (field_bytes b at k) Blank (blank_of (bad_place b at k) _ (sym told ∙ q)) (λ z. let c : ◌≡◌ {A = ℕ} 0 1 = cc in omega arith) in
+              let f = of_read k (field_bytes b at k) blank_written (blank_of (bad_place b at k) _ (sym told ∙ q)) (λ z. let c : ◌≡◌ {A = ℕ} 0 1 = cc in omega arith) in
               all_blank f.1 refl ∙ ap (λ (i : ℕ). replicate i 32) bs_length,
           λ e. answered
-              (reads k (field_bytes b at k) Blank
-              (bs_length, subst (λ (l : List ℕ). Good true (shape_of k) l Blank) (sym e) (blanks (shape_of k) (width_of k)))),
+              (reads k (field_bytes b at k) blank_written
+              (bs_length, subst (λ (l : List ℕ). Good true (shape_of k) l blank_written) (sym e) (blanks (shape_of k) (width_of k)))),
         );
         refused = λ p. (
           λ q. let o = bad_of (bad_place b at k) _ p (sym told ∙ q) in (bad_in (shape_of k) (field_bytes b at k), sym o.1, pointed o.0),

@@ -3,10 +3,9 @@
 // first of the bytes handed over.
 #![tactic(auto)]
 
-ghost use Rattle.std.specs.Prelude.{◌≡◌, ◌<◌, ◌≤◌, ◌+◌, ltb, length, take, drop};
+ghost use Rattle.std.specs.Prelude.{◌≡◌, ◌<◌, ◌≤◌, ◌+◌, ltb, length};
 ghost use Rattle.decimal.specs.Forms.{width_of};
 ghost use Rattle.decimal.specs.Scan.{Fit};
-ghost use Rattle.bad_byte.specs.Columns.{bad_in};
 ghost use Rattle.fields.specs.Shaped.{shaped_at};
 ghost use Rattle.fields.specs.Field.{field_at, rough_at, bad_place, badly?, from_written, refuse};
 ghost use Rattle.fields.specs.Listed.{row, listed, listed_field};
@@ -54,13 +53,13 @@ fn short(bytes: &[u8], at: usize, n: usize) -> bool
     ensures { result ≡ ltb (length bytes.now) (at + n) }
 {
     let len = bytes.len();
-    if len < n {
-        return true;
-    }
-    len - n < at
+    len < n || len - n < at
 }
 
 // A number of this shape in n bytes at a place. Bytes that end before the field does are refusal 2.
+// It is made anew at each call, so that the compiler knows each form's width and places (docs/SPEED.md).
+#[inline(always)]
+#[tactic(auto, unfolding(crate::specs::Shaped::shaped_at))]
 fn shaped_at(bytes: &[u8], at: usize, n: usize, shape: Shape) -> Field
     requires { Fit shape n }
     ensures { result ≡ shaped_at bytes.now at n shape }
@@ -88,40 +87,20 @@ fn rough_at(bytes: &[u8], at: usize, form: Form) -> Field
     }
 }
 
-// The place of the first bad byte of a field of n bytes at a place.
-fn spot(bytes: &[u8], at: usize, n: usize, shape: Shape) -> u64
-    requires { at + n ≤ length bytes.now }
-    ensures { result ≡ at + bad_in shape (take n (drop at bytes.now)) }
-{
-    let end = at + n;
-    (at + bad_byte::place(&bytes[at..end], shape)) as u64
-}
-
-// The same of a field of this form.
+// The place of the first bad byte of the field of this form at a place.
 fn bad_at(bytes: &[u8], at: usize, form: Form) -> u64
     requires { at + width_of form ≤ length bytes.now }
     ensures { result ≡ bad_place bytes.now at form }
 {
-    match form {
-        Form::I4 => spot(bytes, at, 4, Shape::Whole),
-        Form::I6 => spot(bytes, at, 6, Shape::Whole),
-        Form::I8 => spot(bytes, at, 8, Shape::Whole),
-        Form::I16 => spot(bytes, at, 16, Shape::Whole),
-        Form::F8d3 => spot(bytes, at, 8, Shape::Fixed(3)),
-        Form::F16d7 => spot(bytes, at, 16, Shape::Fixed(7)),
-        Form::E20d13 => spot(bytes, at, 20, Shape::Expo(13)),
-    }
+    let end = at + decimal::width(form);
+    (at + bad_byte::place(&bytes[at..end], decimal::shape_of(form))) as u64
 }
 
 // The field is badly written.
 fn badly(f: Field) -> bool
     ensures { result ≡ badly? f }
 {
-    match f {
-        Field::Value(_, _) => false,
-        Field::Blank => false,
-        Field::Refused(x) => x.number == 6,
-    }
+    matches!(f, Field::Refused(x) if x.number == 6)
 }
 
 // What the field of this form at a place says. The first bad byte (document 02, No. 5) is looked for behind
@@ -145,6 +124,7 @@ fn row(first: usize, form: Form) -> Listed
 
 // Row i of the table, from 0: fields 1 to 10 stand in the summary record, 11 to 13 in the map record.
 // It is no array, since one of structs is built anew at each look into it (docs/SPEED.md).
+#[tactic(auto, unfolding(crate::specs::Listed::listed))]
 pub fn listed_row(i: usize) -> Listed
     requires { i < 13 }
     ensures { result ≡ listed i }

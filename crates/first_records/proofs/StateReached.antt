@@ -9,6 +9,7 @@ use native.Mathlib.Nat.{add-zero}
 use native.Mathlib.Omega.{arith}
 use lib.ListN.{length, take, drop}
 use lib.Seq.{take_at, drop_at}
+use Rattle.std.specs.Prelude.{Ok}
 use Rattle.plan.specs.Tables.{rows}
 use Rattle.plan.specs.Plan.{first_length, total_of, spot_of, plan_good, due_of}
 use Rattle.plan.specs.declared.Plan.{Plan}
@@ -37,7 +38,6 @@ use Rattle.promises.proofs.WitnessLater.{later_some, later_twelve}
 use Rattle.first_records.specs.StateRule.{Nameable, Lawful, AllowedState, Reached}
 use Rattle.first_records.proofs.AllowedNamed.{allowed_named, zero_plan_lem}
 use Rattle.first_records.proofs.StateRule.{state_rule}
-use Rattle.std.specs.Prelude.{Ok}
 
 -- what a walk hands back behind a turn that passes
 behind_turn : (st : State) (bs : List ℕ) (n : ℕ) → good_state st ≡ true → turn_of st bs false ≡ Ok tt

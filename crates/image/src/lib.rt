@@ -40,6 +40,7 @@ fn sort_of(r: &[u8]) -> u64
 }
 
 // The first record's text, and the sort's at 429.
+#[tactic(auto, unfolding(verdicts::specs::Tests::first_fault))]
 fn texts(r: &[u8], sort: u64) -> Verdict
     requires { sort ≡ sort_in r.now }
     ensures { result ≡ first_fault (image_texts r.now) }
@@ -49,6 +50,7 @@ fn texts(r: &[u8], sort: u64) -> Verdict
 }
 
 // Number field i of the descriptor, from 0, by position: its number, or the refusal.
+#[tactic(auto, unfolding(crate::specs::Image::image_row))]
 fn number_at(r: &[u8], sort: u64, i: usize) -> Result<Number, Refusal>
     requires { i < 8 }
     ensures { result ≡ number_field r.now (image_row sort i) }
@@ -79,6 +81,7 @@ fn read_numbers(r: &[u8], sort: u64) -> Result<[u64; 8], Refusal>
 
 // Both line counts equal; d is a group for each pixel; what goes before, the data and the suffix
 // fit L. The numbers have passed their ranges, so no sum wraps.
+#[tactic(auto, unfolding(crate::specs::Image::agree_tests, verdicts::specs::Tests::first_fault))]
 fn agree(sort: u64, n: u64, l: u64, lines: u64, w: u64, d: u64, s: u64) -> Verdict
     requires { (w ≤ 99999999) × (d ≤ 99999999) × (s ≤ 9999) }
     ensures { result ≡ first_fault (agree_tests sort n l lines w d s) }
@@ -122,6 +125,7 @@ pub fn fills_of(r: &[u8]) -> Fills
 
 // Line k of an image of w pixels: line number, index 1, and fills whose ordinary sum is w. The sum
 // of three four-byte numbers fits 64 bits, so it does not wrap.
+#[tactic(auto, unfolding(crate::specs::Image::line_tests, verdicts::specs::Tests::first_fault))]
 pub fn line(w: u64, k: u64, r: &[u8]) -> Verdict
     ensures { result ≡ first_fault (line_tests w k r.now) }
 {
@@ -141,15 +145,15 @@ pub fn line(w: u64, k: u64, r: &[u8]) -> Verdict
 }
 
 // A line's tests on bytes that have all come: whether `line` would find nothing wrong.
+#[tactic(auto, unfolding(crate::specs::Image::line_tests, verdicts::specs::Tests::all_hold, words::specs::Words::place_of))]
 pub fn line_there(w: u64, k: u64, r: &[u8]) -> bool
     requires { 32 ≤ length r.now }
     ensures { result ≡ all_hold (line_tests w k r.now) }
 {
-    let number = words::is(words::four_there(r, words::place(13)), k);
-    let index = words::is(words::four_there(r, words::place(17)), 1);
+    let number = words::four_there(r, words::place(13));
+    let index = words::four_there(r, words::place(17));
     let left = words::four_there(r, words::place(21));
     let data = words::four_there(r, words::place(25));
     let right = words::four_there(r, words::place(29));
-    let fills = words::is(left + data + right, w);
-    words::both(number, words::both(index, fills))
+    number == k && index == 1 && left + data + right == w
 }

@@ -33,13 +33,11 @@ struct Held {
 fn slot_row(i: usize) -> Option<usize>
     ensures { result ≡ slot_row i }
 {
-    if i < 5 {
-        return Some(i);
+    match i {
+        0..=4 => Some(i),
+        6 => Some(5),
+        _ => None,
     }
-    if i == 6 {
-        return Some(5);
-    }
-    None
 }
 
 // Pair i of the descriptor, from 0, by position: slots 1 to 15 from byte 181 on, 12 bytes each, then the
@@ -121,6 +119,7 @@ fn listed(r: &[u8], from: usize, to: usize) -> Verdict
 }
 
 // A record behind the descriptor: a summary, a map record, or one whose bytes are free.
+#[tactic(auto, unfolding(crate::specs::Leader::leader_record, verdicts::specs::Tests::first_fault))]
 pub fn record(run: u64, r: &[u8]) -> Verdict
     requires { run ≡ 0 → ⊥ }
     ensures { result ≡ first_fault (leader_record run r.now) }

@@ -15,10 +15,8 @@ use Rattle.plan.specs.Tables.{sort_of}
 use Rattle.plan.specs.Plan.{image, group_of, due_of}
 use Rattle.plan.specs.declared.Plan.{Plan}
 use Rattle.plan.specs.declared.Due.{Due}
-use Rattle.verdicts.specs.Tests.{and_then}
+use Rattle.verdicts.specs.Tests.{Verdict, and_then}
 use Rattle.bodies.specs.Bodies.{body_of}
-use Rattle.verdicts.specs.declared.Verdict.{Verdict}
-use Rattle.verdicts.specs.declared.Verdict.TheVariants.{Fine, Fault}
 use Rattle.headers.specs.Header.{header_of}
 use Rattle.turns.specs.Turn.{Near}
 use Rattle.turns.specs.declared.Stop.{Stop}
@@ -33,13 +31,9 @@ use Rattle.std.specs.Prelude.{Ok, Err}
 
 -- ---- what is found in a line's record
 
-pub then_fault : (h t : Verdict) → (h ≡ Fine → ⊥) → and_then h t ≡ h
-then_fault Fine t n = absurd (n refl)
-then_fault (Fault m a) t n = refl
-
 near_then : (h t : Verdict) → Near h → Near t → Near (and_then h t)
-near_then Fine t a b = b
-near_then (Fault m at) t a b = a
+near_then (Ok u) t a b = b
+near_then (Err x) t a b = a
 
 pub found_near : (p : Plan) (k : ℕ) (s : Due) (r : List ℕ) → Near (found_in p k s r)
 unfolding found_in
@@ -80,7 +74,7 @@ module _ (p : Plan) (k : ℕ) (bs : List ℕ) where
 pub record Seen (p : Plan) (k : ℕ) (s : Due) (bs : List ℕ) (start count left : ℕ) : Type 0 where
   pub inside : within_of 1 k p.n ≡ true
   pub whole : s.start + s.length ≤ length bs
-  pub fine : found_in p k s (record_at s bs) ≡ Fine
+  pub fine : found_in p k s (record_at s bs) ≡ Ok tt
   pub starts : start ≡ s.start + pixels_from p + group_of p * left_of (record_at s bs)
   pub counts : count ≡ data_of (record_at s bs)
   pub lefts : left ≡ left_of (record_at s bs)
@@ -110,8 +104,8 @@ module _ (p : Plan) (k : ℕ) (bs : List ℕ) (start count left : ℕ) where
           → Seen p k (due_of image p k) bs start count left
       go false ea b eb v ev e = absurd (refused≢shown _ _ _ _ e)
       go true ea true eb v ev e = absurd (wait≢shown _ _ _ _ e)
-      go true ea false eb (Fault n at) ev e = absurd (refused≢shown _ _ _ _ e)
-      go true ea false eb Fine ev e =
+      go true ea false eb (Err x) ev e = absurd (refused≢shown _ _ _ _ e)
+      go true ea false eb (Ok u) ev e =
           let same = same_shown _ _ (sym e) in
           record {
             inside = ea;

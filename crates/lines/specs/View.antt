@@ -106,3 +106,8 @@ pub record Lined (p : Plan) : Type 0 where
   -- 192, the least that stands ahead of a line's pixels in either sort, is enough here
   pub room : 1 ≤ p.n → 192 + p.d + p.s ≤ p.l
   pub paired : 1 ≤ p.n → p.d ≡ group_of p * p.w
+
+-- what the first record says of every line: the plan that it names has room for its lines, which are shown under it; or none is, for its own wait or refusal
+abbrev pub Leads : List ℕ → Result Plan Unshown → Type 0
+Leads bs (Ok p) = Lined p × ((k : ℕ) → sorted_of bs k ≡ record { sort = p.sort; view = line_of p k bs })
+Leads bs (Err x) = (k : ℕ) → sorted_of bs k ≡ record { sort = 0; view = Err x }

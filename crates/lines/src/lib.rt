@@ -3,11 +3,11 @@
 // from the plan.
 #![tactic(auto)]
 
-ghost use Rattle.std.specs.Prelude.{◌≡◌, ◌+◌, ◌*◌, ◌≤◌, length, Ok, Err};
+ghost use Rattle.std.specs.Prelude.{◌≡◌, ◌+◌, ◌*◌, ◌≤◌, length, Ok};
 ghost use Rattle.plan.specs.Plan.{image, first_codes, due_of, Placed};
 ghost use Rattle.headers.specs.Header.{header_of};
-ghost use Rattle.lines.specs.declared.Unshown.TheVariants.{Wait, Refused};
-ghost use Rattle.lines.specs.View.{pixels_from, shown_of, found_in, line_at, line_of, sorted_of, view_of, pixels_of, Lined};
+ghost use Rattle.lines.specs.declared.Unshown.TheVariants.{Refused};
+ghost use Rattle.lines.specs.View.{pixels_from, shown_of, found_in, line_at, line_of, sorted_of, view_of, pixels_of, Lined, Leads};
 
 use plan::{Due, Plan};
 use verdicts::Verdict;
@@ -146,47 +146,42 @@ fn first_header(b: &[u8]) -> Verdict
     headers::header(1, codes, 720, b)
 }
 
-// The bytes of the first record that are still missing: no sort is known.
-fn missing(n: u64) -> Sorted
-    ensures { result ≡ record { sort = 0; view = Err (Wait n) } }
-{
-    Sorted {
-        sort: 0,
-        view: Err(Unshown::Wait(n)),
-    }
-}
-
 // A refusal of the first record, which starts at 0.
-fn refused(x: Refusal) -> Sorted
-    ensures { result ≡ record { sort = 0; view = Err (Refused (record { number = x.number; «record» = 1; place = x.place })) } }
+fn refused(x: Refusal) -> Unshown
+    ensures { result ≡ Refused (record { number = x.number; «record» = 1; place = x.place }) }
 {
-    Sorted {
-        sort: 0,
-        view: Err(Unshown::Refused(Refusal { record: 1, ..x })),
-    }
+    Unshown::Refused(Refusal { record: 1, ..x })
 }
 
-// The line view with the sort, asked of an image prefix held from byte 0: the first record as in the
-// walk, open; then line k. Asking for the last line costs no more than asking for the first. The walk
-// itself is not called: its state would be moved about for one record (docs/SPEED.md).
-pub fn sorted_view(bytes: &[u8], k: u64) -> Sorted
-    ensures { result ≡ sorted_of bytes.now k }
+// The plan that the first record names, the record read as in the walk, open; or its own wait or refusal. The
+// walk itself is not called: its state would be moved about for one record (docs/SPEED.md).
+fn first_plan(bytes: &[u8]) -> Result<Plan, Unshown>
+    ensures { Leads bytes.now result }
 {
     let len = bytes.len() as u64;
     if len < 12 {
-        return missing(12 - len);
+        return Err(Unshown::Wait(12 - len));
     }
-    if let Err(x) = first_header(bytes) {
-        return refused(x);
-    }
+    first_header(bytes).map_err(refused)?;
     if len < 720 {
-        return missing(720 - len);
+        return Err(Unshown::Wait(720 - len));
     }
-    match bodies::of_image(&bytes[..720]) {
-        Err(x) => refused(x),
+    bodies::of_image(&bytes[..720]).map_err(refused)
+}
+
+// The line view with the sort, asked of an image prefix held from byte 0: the first record; then line k.
+// Asking for the last line costs no more than asking for the first.
+pub fn sorted_view(bytes: &[u8], k: u64) -> Sorted
+    ensures { result ≡ sorted_of bytes.now k }
+{
+    match first_plan(bytes) {
         Ok(p) => Sorted {
             sort: p.sort,
             view: line(p, k, bytes),
+        },
+        Err(x) => Sorted {
+            sort: 0,
+            view: Err(x),
         },
     }
 }

@@ -9,6 +9,7 @@ use native.Mathlib.Omega.{arith}
 use lib.Dec.{eqb}
 use lib.ListN.{length, take, drop}
 use borrow.Author.Tests.{eqb-true, eq-eqb, ne_eqb}
+use Rattle.std.specs.Prelude.{Ok}
 use Rattle.words.specs.Tests.{pick}
 use Rattle.words.specs.Words.{place_of}
 use Rattle.decimal.specs.Text.{bytes}
@@ -25,7 +26,6 @@ use Rattle.promises.specs.Rules.{Kind, volume, leader, image, trailer, kind_numb
 use Rattle.promises.specs.Newest.{Readable, Pointer, Summary, Map}
 use Rattle.promises.proofs.Each.{each_at, next}
 use Rattle.promises.proofs.Parts.{text_is, number_is, readable_is}
-use Rattle.std.specs.Prelude.{Ok}
 
 -- ---- pointers
 

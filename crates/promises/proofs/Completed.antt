@@ -9,6 +9,7 @@ use lib.Dec.{eqb}
 use lib.ListN.{length, take, drop}
 use lib.Seq.{take-length, drop_at}
 use borrow.Author.Tests.{le-leb}
+use Rattle.std.specs.Prelude.{Ok}
 use Rattle.words.specs.Tests.{pick}
 use Rattle.words.proofs.Laws.{both_make, within_true, true_within}
 use Rattle.plan.specs.Tables.{rows}
@@ -30,13 +31,12 @@ use Rattle.walk.proofs.GoodLaws.{good_known, good_some, good_later, fresh_good}
 use Rattle.walk.proofs.LoopLaws.{walk_halt, walk_pass}
 use Rattle.turns.proofs.TurnLaws.{judge_ended, judge_body, one_total}
 use Rattle.walk.proofs.TurnLaws.{next_as_later}
+use Rattle.verdicts.specs.Tests.{Verdict}
 use Rattle.promises.specs.Bytes.{Bytes}
 use Rattle.promises.proofs.Turns.{turn_pass_stays, next_stays}
 use Rattle.promises.proofs.Made.{bytes_join}
 use Rattle.promises.proofs.WitnessFirst.{first_some}
 use Rattle.promises.proofs.WitnessLater.{later_some, later_twelve}
-use Rattle.verdicts.specs.Tests.{Verdict}
-use Rattle.std.specs.Prelude.{Ok}
 
 -- some bytes, with which every closed walk of budget m or more is complete
 pub record Done (m : ℕ) (st : State) : Type 0 where

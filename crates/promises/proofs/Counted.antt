@@ -5,6 +5,7 @@ use mathlib.Core.Logic.{◌≢◌}
 use mathlib.Core.List.{List}
 use mathlib.Core.Bool.{Bool, true, false}
 use native.Mathlib.Omega.{arith}
+use Rattle.std.specs.Prelude.{Err}
 use Rattle.words.specs.declared.Refusal.{Refusal}
 use Rattle.walk.specs.State.{good_state}
 use Rattle.walk.specs.Walk.{bad_stop, walk_of}
@@ -16,7 +17,6 @@ use Rattle.promises.proofs.Steps.{by_turns}
 use Rattle.promises.proofs.Turns.{open_turn, turn_ordinal, never_pause, pause≢complete, pause≢refused, refused≢pause, refused≢complete}
 use Rattle.promises.proofs.Turns.{refused_same, wait≢refused, wait≢pause}
 use Rattle.promises.proofs.Passing.{closed_turn}
-use Rattle.std.specs.Prelude.{Err}
 
 -- the count is the state's difference
 pub counted : (b : ℕ) (st : State) (bs : List ℕ) (c : Bool) → (walk_of b st bs c).state.passed ≡ st.passed + (walk_of b st bs c).count

@@ -5,6 +5,7 @@ use mathlib.Core.Logic.{◌↔◌, ⊎_elim}
 use mathlib.Core.List.{List}
 use mathlib.Core.Bool.{Bool, true, false, false≢true}
 use native.Mathlib.Omega.{arith}
+use Rattle.std.specs.Prelude.{Err}
 use Rattle.words.specs.Tests.{pick}
 use Rattle.words.specs.declared.Refusal.{Refusal}
 use Rattle.words.proofs.Laws.{cases}
@@ -20,7 +21,6 @@ use Rattle.walk.proofs.TurnLaws.{good_next}
 use Rattle.promises.proofs.Steps.{by_turns}
 use Rattle.promises.proofs.Counted.{bad_kept}
 use Rattle.promises.proofs.Turns.{halt_of, wait≢refused, complete≢refused, pause≢refused, refused_same}
-use Rattle.std.specs.Prelude.{Err}
 
 -- a turn's refusal has a number of at most 10
 abbrev LowStop : Stop → Type 0

@@ -10,7 +10,7 @@ use lib.Dec.{eqb, leb}
 use lib.ListN.{length, take, drop, length-append, get_or-append}
 use lib.Seq.{take_at, drop-drop, drop_at, drop-append-add, length-take-le}
 use borrow.Author.Tests.{eqb-true, ltb-true, ltb-false}
-use Rattle.words.specs.Answer.{refusal_at}
+use Rattle.std.specs.Prelude.{Ok, Err}
 use Rattle.words.specs.Tests.{pick}
 use Rattle.words.specs.Words.{two_at, four_at, place_of}
 use Rattle.plan.specs.Plan.{total_of, spot_of}
@@ -37,7 +37,6 @@ use Rattle.promises.proofs.Pieces.{used_within}
 use Rattle.promises.proofs.Starts.{start_advances}
 use Rattle.promises.proofs.Own.{reached}
 use Rattle.promises.proofs.Arriving.{arriving_any}
-use Rattle.std.specs.Prelude.{Ok, Err}
 
 -- a header that has no fault names the due length
 header_length : (o : ℕ) (c : Codes) (long : ℕ) (b : List ℕ) → header_of o c long b ≡ Ok tt → four_at b 8 ≡ long
@@ -63,14 +62,14 @@ waited : (x y z : Bool) (h t : Verdict) (o a left m₁ m₂ m : ℕ)
 unfolding ended_of short_of
 waited true y z h t o a left m₁ m₂ m e = inl (go (eqb left 0) refl e)
   where
-    go : (b : Bool) → eqb left 0 ≡ b → Err (pick b (Wait 0) (refused_at o a 9 0)) ≡ Err (Wait m) → left ≡ 0
+    go : (b : Bool) → eqb left 0 ≡ b → ◌≡◌ {A = Turn} (Err (pick b (Wait 0) (refused_at o a 9 0))) (Err (Wait m)) → left ≡ 0
     go true q f = eqb-true left 0 q
-    go false q f = let w : ◌≡◌ {A = ℕ} 0 1 = cc in absurd (omega arith)
+    go false q f = absurd cc
 waited false true z h t o a left m₁ m₂ m e = inr (inl refl)
-waited false false z (Err r) t o a left m₁ m₂ m e = let w : ◌≡◌ {A = ℕ} 0 1 = cc in absurd (omega arith)
+waited false false z (Err r) t o a left m₁ m₂ m e = absurd cc
 waited false false true (Ok u) t o a left m₁ m₂ m e = inr (inr (refl, refl))
-waited false false false (Ok u) (Ok v) o a left m₁ m₂ m e = let w : ◌≡◌ {A = ℕ} 0 1 = cc in absurd (omega arith)
-waited false false false (Ok u) (Err r) o a left m₁ m₂ m e = let w : ◌≡◌ {A = ℕ} 0 1 = cc in absurd (omega arith)
+waited false false false (Ok u) (Ok v) o a left m₁ m₂ m e = absurd cc
+waited false false false (Ok u) (Err r) o a left m₁ m₂ m e = absurd cc
 
 -- a chunk of the state's next record: whole by its own header, or as long as is due
 abbrev Chunk : State → List ℕ → Type 0
@@ -131,14 +130,14 @@ nothing_pass n st y w u g t ih (r ∷ rs) e h k =
 
 wait≢ : (m : ℕ) (x : Stop) → x ≡ Wait m → x ≡ bad_stop → ⊥
 unfolding bad_stop
-wait≢ m x e f = let z : ◌≡◌ {A = ℕ} 0 1 = cc in omega arith
+wait≢ m x e f = cc
 
 nothing_left : (b : ℕ) (st : State) (bs : List ℕ) (rs : List (List ℕ)) → concat rs ≡ bs → Chunks st.kind st.plan st.passed rs
     → Waits (walk_of b st bs false).stop → drop (used_of b st bs false) bs ≡ []
 unfolding Nothing
 nothing_left =
     by_turns false Nothing (λ n s y g rs e h k. absurd (wait≢ k.0 bad_stop k.1 refl))
-    (λ s y g rs e h k. absurd (let q = k.1 in let z : ◌≡◌ {A = ℕ} 0 1 = cc in omega arith)) nothing_halt nothing_pass
+    (λ s y g rs e h k. absurd (let q = k.1 in cc)) nothing_halt nothing_pass
 
 -- ---- a state of one's own stands as far on as its calls passed
 

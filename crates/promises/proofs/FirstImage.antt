@@ -7,6 +7,7 @@ use mathlib.Core.Logic.{◌↔◌}
 use native.Mathlib.Omega.{arith}
 use lib.ListN.{length}
 use borrow.Author.Tests.{eqb-true, eq-eqb, leb-true, le-leb}
+use Rattle.std.specs.Prelude.{Ok}
 use Rattle.words.specs.Words.{place_of}
 use Rattle.decimal.specs.Text.{bytes}
 use Rattle.decimal.specs.declared.Form.TheVariants.{I4, I6, I8}
@@ -26,7 +27,6 @@ use Rattle.promises.specs.Newest.{ImageDescriptor}
 use Rattle.promises.proofs.Each.{next}
 use Rattle.promises.proofs.Sorts.{group_same, ahead_same, text_same, text_short, sort_is}
 use Rattle.promises.proofs.Parts.{text_is, header_is, number_is}
-use Rattle.std.specs.Prelude.{Ok}
 
 -- the plan's numbers that the record says
 pub record Named (r : List ℕ) (q : Plan) : Type 0 where

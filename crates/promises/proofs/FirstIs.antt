@@ -5,6 +5,7 @@ use mathlib.Core.Path.{◌≡◌}
 use mathlib.Core.List.{List}
 use mathlib.Core.Logic.{◌↔◌}
 use lib.ListN.{length}
+use Rattle.std.specs.Prelude.{Ok}
 use Rattle.plan.specs.Plan.{first_length, first_codes}
 use Rattle.plan.specs.declared.Plan.{Plan}
 use Rattle.bodies.specs.Bodies.{body_of}
@@ -18,7 +19,6 @@ use Rattle.promises.proofs.FirstVolume.{volume_is}
 use Rattle.promises.proofs.FirstLeader.{leader_is}
 use Rattle.promises.proofs.FirstImage.{image_is}
 use Rattle.promises.proofs.FirstTrailer.{trailer_is}
-use Rattle.std.specs.Prelude.{Ok}
 
 -- header and body of the first record have no fault
 pub record Fault_free (kind : ℕ) (p : Plan) (r : List ℕ) : Type 0 where

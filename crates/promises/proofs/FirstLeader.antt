@@ -6,6 +6,7 @@ use mathlib.Core.List.{List}
 use mathlib.Core.Logic.{◌↔◌}
 use native.Mathlib.Omega.{arith}
 use lib.ListN.{length, get_or}
+use Rattle.std.specs.Prelude.{Ok, Some, None, Option}
 use Rattle.words.specs.Words.{place_of}
 use Rattle.decimal.specs.Text.{bytes}
 use Rattle.decimal.specs.Forms.{width_of, shape_of}
@@ -24,7 +25,6 @@ use Rattle.headers.specs.Header.{header_of}
 use Rattle.promises.specs.Newest.{Pair, NoSlot, Facility, LeaderDescriptor}
 use Rattle.promises.proofs.Each.{each_at, next}
 use Rattle.promises.proofs.Parts.{text_is, header_is, pair_is}
-use Rattle.std.specs.Prelude.{Ok, Some, None, Option}
 
 -- row i of the plan has the count and the length that the record says
 abbrev pub NamedAt : List ℕ → Plan → ℕ → Type 0

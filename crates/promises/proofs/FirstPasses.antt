@@ -5,6 +5,7 @@ use mathlib.Core.List.{List}
 use mathlib.Core.Bool.{Bool, true}
 use native.Mathlib.Omega.{arith}
 use lib.ListN.{length, take, drop, length-append, take-append-drop}
+use Rattle.std.specs.Prelude.{Ok}
 use Rattle.plan.specs.Plan.{zero_plan, first_length, spot_of}
 use Rattle.plan.specs.declared.Plan.{Plan}
 use Rattle.walk.specs.State.{fresh, good_state, next_due}
@@ -20,7 +21,6 @@ use Rattle.promises.specs.Newest.{First}
 use Rattle.promises.proofs.Accepts.{fresh_is, good_fresh}
 use Rattle.promises.proofs.FirstIs.{first_names}
 use Rattle.promises.proofs.AnyEdition.{Same, first_size}
-use Rattle.std.specs.Prelude.{Ok}
 
 -- as many bytes as were taken were there
 pub taken_long : (n : ℕ) (bs : List ℕ) → length (take n bs) ≡ n → n ≤ length bs

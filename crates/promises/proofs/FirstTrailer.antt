@@ -5,6 +5,7 @@ use mathlib.Core.List.{List}
 use mathlib.Core.Logic.{◌↔◌}
 use native.Mathlib.Omega.{arith}
 use lib.ListN.{length}
+use Rattle.std.specs.Prelude.{Ok}
 use Rattle.words.specs.Words.{place_of}
 use Rattle.decimal.specs.Text.{bytes}
 use Rattle.plan.specs.Tables.{other_codes}
@@ -15,7 +16,6 @@ use Rattle.verdicts.proofs.Holding.{fine_holds, holds_fine}
 use Rattle.headers.specs.Header.{header_of}
 use Rattle.promises.specs.Rules.{TrailerRecord}
 use Rattle.promises.proofs.Parts.{text_is, header_is}
-use Rattle.std.specs.Prelude.{Ok}
 
 pub trailer_is : (p q : Plan) (r : List ℕ) → length r ≡ 720 → ((header_of 1 (first_codes 4) 720 r ≡ Ok tt) × (body_of 4 0 p 0 r ≡ Ok tt)) ↔ TrailerRecord r q
 unfolding body_of body_tests trailer_tests first_codes other_codes place_of

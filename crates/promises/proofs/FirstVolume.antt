@@ -6,6 +6,7 @@ use mathlib.Core.List.{List}
 use mathlib.Core.Logic.{◌↔◌}
 use native.Mathlib.Omega.{arith}
 use lib.ListN.{length}
+use Rattle.std.specs.Prelude.{Ok}
 use Rattle.words.specs.Words.{place_of}
 use Rattle.decimal.specs.Text.{bytes}
 use Rattle.decimal.specs.declared.Form.TheVariants.{I4}
@@ -19,7 +20,6 @@ use Rattle.verdicts.proofs.Holding.{fine_holds, holds_fine}
 use Rattle.headers.specs.Header.{header_of}
 use Rattle.promises.specs.Newest.{VolumeDescriptor}
 use Rattle.promises.proofs.Parts.{text_is, header_is, number_is}
-use Rattle.std.specs.Prelude.{Ok}
 
 pub volume_is : (p q : Plan) (r : List ℕ) → length r ≡ 360
     → ((header_of 1 (first_codes 1) 360 r ≡ Ok tt) × (body_of 1 0 p 0 r ≡ Ok tt) × (number_at r 161 I4 ≡ q.pointers)) ↔ VolumeDescriptor r q

@@ -1,13 +1,13 @@
 -- The promises in the words of document 01: what is shown of the walk, the line view, the row copy and the set check, said of the answer's word and
 -- numbers. Each word stands for one case of its enum, so each statement is the one over the cases.
 use Prim.Native.Nat.{ℕ, ◌+◌, ◌≤◌, ◌<◌}
-use mathlib.Core.Path.{◌≡◌, refl, ap}
+use mathlib.Core.Path.{◌≡◌, refl, ap, ap₂, ◌∙◌}
 use mathlib.Core.Logic.{◌↔◌}
 use mathlib.Core.List.{List, [], ◌∷◌, ◌++◌}
 use mathlib.Core.Bool.{Bool, true, false}
-use native.Mathlib.Omega.{arith}
 use lib.IntN.{pos}
 use lib.ListN.{length}
+use Rattle.std.specs.Prelude.{Ok, Err}
 use Rattle.words.specs.Answer.{Answer, waiting, paused, complete, refused, shown, copied, agrees}
 use Rattle.words.specs.declared.Refusal.{Refusal}
 use Rattle.plan.specs.Plan.{total_of}
@@ -24,6 +24,7 @@ use Rattle.copies.specs.Row.{copied_of}
 use Rattle.copies.specs.Said.{copied_as}
 use Rattle.sets.specs.Set.{set_of, Agreement}
 use Rattle.sets.specs.Said.{agreement_as}
+use Rattle.lines.specs.declared.Unshown.TheVariants as unshown
 use Rattle.promises.specs.Rules.{Kind, volume, kind_number}
 use Rattle.promises.specs.Newest.{Accepted}
 use Rattle.promises.specs.Arriving.{Own, Starts, AtRecordEnd}
@@ -34,41 +35,44 @@ use Rattle.promises.proofs.Ends.{arriving}
 use Rattle.promises.proofs.LineNamed.{line_named}
 use Rattle.promises.proofs.RowNamed.{sample_named}
 use Rattle.promises.proofs.SetAgrees.{set_agrees}
-use Rattle.lines.specs.declared.Unshown.TheVariants as unshown
-use Rattle.std.specs.Prelude.{Ok, Err}
 
 -- ---- each word is one case
 
 waiting_is : (x : Stop) → (stop_as x).word ≡ waiting → (n : ℕ) × (x ≡ Wait n)
 waiting_is (Wait n) e = (n, refl)
-waiting_is Pause e = absurd (let z : ◌≡◌ {A = ℕ} 0 1 = cc in omega arith)
-waiting_is Complete e = absurd (let z : ◌≡◌ {A = ℕ} 0 1 = cc in omega arith)
-waiting_is (Refused r) e = absurd (let z : ◌≡◌ {A = ℕ} 0 1 = cc in omega arith)
+waiting_is Pause e = absurd cc
+waiting_is Complete e = absurd cc
+waiting_is (Refused r) e = absurd cc
 
 refused_is : (x : Stop) → (stop_as x).word ≡ refused → (r : Refusal) × (x ≡ Refused r)
-refused_is (Wait n) e = absurd (let z : ◌≡◌ {A = ℕ} 0 1 = cc in omega arith)
-refused_is Pause e = absurd (let z : ◌≡◌ {A = ℕ} 0 1 = cc in omega arith)
-refused_is Complete e = absurd (let z : ◌≡◌ {A = ℕ} 0 1 = cc in omega arith)
+refused_is (Wait n) e = absurd cc
+refused_is Pause e = absurd cc
+refused_is Complete e = absurd cc
 refused_is (Refused r) e = (r, refl)
 
 complete_is : (x : Stop) → (stop_as x).word ≡ complete → x ≡ Complete
-complete_is (Wait n) e = absurd (let z : ◌≡◌ {A = ℕ} 0 1 = cc in omega arith)
-complete_is Pause e = absurd (let z : ◌≡◌ {A = ℕ} 0 1 = cc in omega arith)
+complete_is (Wait n) e = absurd cc
+complete_is Pause e = absurd cc
 complete_is Complete e = refl
-complete_is (Refused r) e = absurd (let z : ◌≡◌ {A = ℕ} 0 1 = cc in omega arith)
+complete_is (Refused r) e = absurd cc
 
 -- the answer that shows a line
 abbrev pub showing : ℕ → ℕ → ℕ → Answer
 showing start count left = record { word = shown; numbers = pos start ∷ pos count ∷ pos left ∷ [] }
 
 shown_is : (v : View) (start count left : ℕ) → view_as v ≡ showing start count left → v ≡ shown_view start count left
-shown_is (Ok x) start count left e = let n = ap (λ (x : Answer). x.numbers) e in cc
-shown_is (Err (unshown.Wait n)) start count left e = absurd (let w = ap (λ (x : Answer). x.word) e in let z : ◌≡◌ {A = ℕ} 0 1 = cc in omega arith)
-shown_is (Err (unshown.Refused r)) start count left e = absurd (let w = ap (λ (x : Answer). x.word) e in let z : ◌≡◌ {A = ℕ} 0 1 = cc in omega arith)
+shown_is (Ok x) start count left e =
+    let n = ap (λ (y : Answer). y.numbers) e in
+    let a : x.start ≡ start = cc in
+    let b : x.count ≡ count = cc in
+    let c : x.left ≡ left = cc in
+    ap (λ (i : ℕ). shown_view i x.count x.left) a ∙ ap₂ (λ (i j : ℕ). shown_view start i j) b c
+shown_is (Err (unshown.Wait n)) start count left e = absurd (let w = ap (λ (x : Answer). x.word) e in cc)
+shown_is (Err (unshown.Refused r)) start count left e = absurd (let w = ap (λ (x : Answer). x.word) e in cc)
 
 agrees_is : (a : Agreement) → (agreement_as a).word ≡ agrees → a ≡ Ok tt
 agrees_is (Ok u) e = refl
-agrees_is (Err r) e = absurd (let z : ◌≡◌ {A = ℕ} 0 1 = cc in omega arith)
+agrees_is (Err r) e = absurd cc
 
 -- ---- demand 2
 

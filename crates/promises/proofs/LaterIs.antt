@@ -9,6 +9,7 @@ use native.Mathlib.Omega.{arith}
 use native.Mathlib.Numerals.{add-one}
 use lib.Dec.{eqb}
 use lib.ListN.{length, get_or, replicate}
+use Rattle.std.specs.Prelude.{Ok}
 use Rattle.words.specs.Tests.{within_of}
 use Rattle.words.proofs.Laws.{both_l, both_r, within_true}
 use Rattle.plan.specs.Tables.{slot_of, other_codes, rows}
@@ -25,7 +26,6 @@ use Rattle.promises.proofs.Parts.{CodedBy, header_is}
 use Rattle.promises.proofs.Sorts.{code_same}
 use Rattle.promises.proofs.BodyIs.{holds_of, Long, body_is}
 use Rattle.promises.proofs.Runs.{expand, expand_length, rows_expand, At, spot_at}
-use Rattle.std.specs.Prelude.{Ok}
 
 -- what is due of a record of a run: the run's codes, its length, and what it holds
 abbrev pub promised_by : Kind → Plan → ℕ → ℕ → Due

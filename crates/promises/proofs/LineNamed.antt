@@ -9,9 +9,10 @@ use native.Mathlib.Numerals.{add-one}
 use native.Mathlib.Omega.{arith}
 use lib.ListN.{length, take, drop, length-drop, take-append-drop}
 use lib.Seq.{length-take-le, take-append-le, drop-append-le, drop-drop}
+use Rattle.std.specs.Prelude.{Ok}
 use Rattle.words.specs.Words.{two_at, four_at, place_of}
 use Rattle.words.proofs.Laws.{within_true, true_within}
-use Rattle.plan.specs.Plan.{image as image', group_of, first_length, line_codes, due_of}
+use Rattle.plan.specs.Plan.{image as image', first_length, line_codes, due_of}
 use Rattle.plan.specs.Tables.{codes, sort_of as sort_of'}
 use Rattle.plan.specs.declared.Plan.{Plan}
 use Rattle.plan.specs.declared.Due.{Due}
@@ -37,7 +38,6 @@ use Rattle.promises.proofs.FirstPasses.{taken_long, first_step, first_same}
 use Rattle.promises.proofs.Parts.{header_four}
 use Rattle.promises.proofs.PlanNamed.{plan_named}
 use Rattle.promises.proofs.Sorts.{group_same, code_same}
-use Rattle.std.specs.Prelude.{Ok}
 
 -- line k's record as it is due
 abbrev pub line_as : Plan → ℕ → Due

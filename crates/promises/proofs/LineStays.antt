@@ -9,6 +9,7 @@ use lib.Dec.{ltb}
 use lib.ListN.{length, take, drop, length-append, length-drop}
 use lib.Seq.{take-append-le, drop-append-le}
 use borrow.Author.Tests.{ltb-true, ltb-false, ne_eqb}
+use Rattle.std.specs.Prelude.{Ok, Err}
 use Rattle.words.specs.Tests.{pick, within_of}
 use Rattle.words.proofs.Laws.{cases}
 use Rattle.plan.specs.Plan.{image as image', group_of, due_of}
@@ -23,6 +24,7 @@ use Rattle.lines.specs.View.{found_in, on_verdict, shown_of, line_of, behind_fir
 use Rattle.copies.specs.Row.{samples, copied_by, row_by, copied_of, row_of}
 use Rattle.lines.proofs.ViewLaws.{line_in, line_out, at_short, at_whole}
 use Rattle.lines.proofs.InsideLaws.{line_within, shown_within}
+use Rattle.lines.specs.declared.Unshown.TheVariants as unshown
 use Rattle.promises.specs.Rules.{image}
 use Rattle.promises.proofs.Accepts.{good_fresh}
 use Rattle.promises.proofs.Counted.{open_never_complete, pause_counted}
@@ -30,8 +32,6 @@ use Rattle.promises.proofs.FirstPasses.{one_turn}
 use Rattle.promises.proofs.PlanNamed.{first_walked}
 use Rattle.promises.proofs.Stays.{refusal_stays}
 use Rattle.promises.proofs.Turns.{turn_pass_stays, next_stays}
-use Rattle.lines.specs.declared.Unshown.TheVariants as unshown
-use Rattle.std.specs.Prelude.{Err}
 
 -- a part that is held stays as it is
 part_stays : (S m : ℕ) (bs ys : List ℕ) → S + m ≤ length bs → take m (drop S (bs ++ ys)) ≡ take m (drop S bs)

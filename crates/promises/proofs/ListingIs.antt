@@ -10,7 +10,7 @@ use lib.Dec.{eqb, ltb, leb}
 use lib.ListN.{length, take, drop, length-append, drop_of_length-le}
 use lib.Seq.{take_at}
 use borrow.Author.Tests.{eqb-false, leb-true, leb-false, ltb-true, lt-ltb, ne_eqb}
-use Rattle.words.specs.Answer.{refusal_at}
+use Rattle.std.specs.Prelude.{Ok, Err}
 use Rattle.words.specs.Tests.{pick}
 use Rattle.words.proofs.Laws.{cases}
 use Rattle.plan.specs.Plan.{image as image', first_length, total_of, spot_of, due_of}
@@ -35,11 +35,12 @@ use Rattle.listing.specs.Rows.{longest, passed_row, wanted, say_of, too_long, to
 use Rattle.rows.specs.declared.Row.{Row}
 use Rattle.rows.specs.declared.Row.TheVariants.{TooLong, Refused}
 use Rattle.words.specs.declared.Refusal.{Refusal}
+use Rattle.verdicts.specs.Tests.{Verdict}
 use Rattle.promises.specs.Demands.{planned_total}
 use Rattle.listing.specs.declared.Say.TheVariants.{Want, Next, Last}
 use Rattle.listing.specs.declared.Told.{Told}
 use Rattle.listing.proofs.TurnLaws.{told_long, told_is}
-use Rattle.promises.specs.Listing.{Lists, piece, ended, next, last, closing, closing_by, closing_row, rows_by, rows_of}
+use Rattle.promises.specs.Listing.{Lists, piece, ended, next, last, closing, closing_by, closing_row, rows_of}
 use Rattle.promises.specs.Rules.{image}
 use Rattle.promises.proofs.Accepts.{good_fresh}
 use Rattle.promises.proofs.Counted.{open_never_complete, closed_never_waits}
@@ -49,8 +50,6 @@ use Rattle.promises.proofs.Stays.{refusal_stays, budget_stays}
 use Rattle.promises.proofs.Turns.{halt_same, pass≢halt, turn_room, turn_refusal_stays, turn_pass_stays, next_stays, rest_stays, never_pause}
 use Rattle.promises.proofs.Turns.{refused≢pause}
 use Rattle.promises.proofs.Turns.{wait≢pause, wait≢refused, complete≢pause, wait≢complete}
-use Rattle.verdicts.specs.Tests.{Verdict}
-use Rattle.std.specs.Prelude.{Ok, Err}
 
 -- ---- how long the next record is
 
@@ -118,13 +117,13 @@ Closes st bs row =
     → (row ≡ closing_row (walk_of b st bs true)) ⊎ ((row ≡ TooLong) × (longest < (walk_of b st bs true).state.plan.l))
 
 want≢next : {m : ℕ} {r : Row} → Want m ≡ Next r → ⊥
-want≢next e = let z : ◌≡◌ {A = ℕ} 0 1 = cc in omega arith
+want≢next e = cc
 
 pub want≢last : {m : ℕ} {r : Row} → Want m ≡ Last r → ⊥
-want≢last e = let z : ◌≡◌ {A = ℕ} 0 1 = cc in omega arith
+want≢last e = cc
 
 pub next≢last : {r q : Row} → Next r ≡ Last q → ⊥
-next≢last e = let z : ◌≡◌ {A = ℕ} 0 1 = cc in omega arith
+next≢last e = cc
 
 wanted_same : {m n : ℕ} → Want m ≡ Want n → m ≡ n
 wanted_same e = cc
@@ -467,8 +466,8 @@ refused_alone {input} l r t =
 not_long : (st : State) (x : Stop) → x ≢ Pause → ((n : ℕ) → x ≡ Wait n → ⊥) → closing_by st x ≡ TooLong → ⊥
 not_long st (Wait n) p w e = w n refl
 not_long st Pause p w e = p refl
-not_long st Complete' p w e = let z : ◌≡◌ {A = ℕ} 0 1 = cc in omega arith
-not_long st (Refused' r) p w e = let z : ◌≡◌ {A = ℕ} 0 1 = cc in omega arith
+not_long st Complete' p w e = cc
+not_long st (Refused' r) p w e = cc
 
 -- a state behind its first record, whose lines are too long
 is_long : (st : State) → (st.passed ≡ 0 → ⊥) → longest < st.plan.l → too_long st ≡ true

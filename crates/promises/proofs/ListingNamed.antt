@@ -2,7 +2,7 @@
 -- induction over the rows, record by record.
 use Prim.Native.Nat.{ℕ, zero, suc, ◌+◌, ◌-◌, ◌*◌, ◌≤◌, ◌<◌}
 use mathlib.Core.Path.{◌≡◌, refl, sym, ap, ◌∙◌, subst}
-use mathlib.Core.Bool.{Bool, true, false}
+use mathlib.Core.Bool.{true, false}
 use mathlib.Core.Logic.{◌≢◌, ⊎_elim}
 use mathlib.Core.List.{List, [], ◌∷◌, ◌++◌}
 use native.Mathlib.Omega.{arith}
@@ -11,6 +11,7 @@ use lib.Dec.{eqb, leb, ltb}
 use lib.ListN.{length, take, drop, length-drop}
 use lib.Seq.{drop-drop}
 use borrow.Author.Tests.{eqb-true, eqb-false, leb-false, ltb-false, ne_eqb}
+use Rattle.std.specs.Prelude.{Ok, Err}
 use Rattle.words.specs.Words.{four_at, place_of}
 use Rattle.words.proofs.Laws.{cases}
 use Rattle.plan.specs.Plan.{image as image', first_length, total_of, spot_of, line_codes, plan_good}
@@ -21,7 +22,6 @@ use Rattle.plan.proofs.GoodLaws.{image_room}
 use Rattle.bodies.specs.Bodies.{body_of}
 use Rattle.headers.specs.Header.{header_of}
 use Rattle.turns.specs.Turn.{Turn}
-use Rattle.turns.specs.declared.Stop.{Stop}
 use Rattle.turns.specs.declared.Stop.TheVariants.{Pause}
 use Rattle.turns.proofs.TurnLaws.{Parts, pass_parts}
 use Rattle.walk.specs.State.{fresh, good_state, next_due}
@@ -37,14 +37,13 @@ use Rattle.rows.specs.declared.Row.TheVariants.{Image, Line, TooLong}
 use Rattle.promises.specs.Rules.{image}
 use Rattle.promises.specs.Newest.{ImageDescriptor}
 use Rattle.promises.specs.Demands.{planned_total}
-use Rattle.promises.specs.Shown.{WholeLine, line_start, line_record, left_fill, data_count}
+use Rattle.promises.specs.Shown.{WholeLine, line_start, line_record}
 use Rattle.promises.specs.Listing.{Lists, closing_by, rows_of, line_row, line_rows, Named, alone, lines}
 use Rattle.promises.proofs.Accepts.{good_fresh}
 use Rattle.promises.proofs.LineNamed.{line_size, line_header, line_body_lem}
-use Rattle.promises.proofs.ListingIs.{rows_long, rows_halt, rows_pass, fresh_short, budget_some, listing_rows}
+use Rattle.promises.proofs.ListingIs.{rows_long, rows_halt, rows_pass, fresh_short, listing_rows}
 use Rattle.promises.proofs.Parts.{header_take}
 use Rattle.promises.proofs.PlanNamed.{first_passed, enough_planned}
-use Rattle.std.specs.Prelude.{Ok, Err}
 
 -- an image behind k records
 abbrev at : Plan → ℕ → State

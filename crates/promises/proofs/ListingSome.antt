@@ -2,16 +2,17 @@
 use Prim.Native.Nat.{ℕ, zero, suc, ◌+◌, ◌≤◌, ◌<◌}
 use mathlib.Core.Path.{◌≡◌, refl, sym, ap, ◌∙◌, subst}
 use mathlib.Core.Bool.{Bool, true, false}
-use mathlib.Core.Logic.{◌≢◌, inl, inr, ⊎_elim}
+use mathlib.Core.Logic.{◌≢◌, inl, ⊎_elim}
 use mathlib.Core.List.{List, [], ◌∷◌, ◌++◌}
 use native.Mathlib.Omega.{arith}
 use lib.Dec.{eqb}
 use lib.ListN.{length, take, drop, take-append-drop, length-append, length-drop, length-take}
 use borrow.Author.Tests.{leb-false, ltb-false, eqb-false}
+use Rattle.std.specs.Prelude.{Ok, Err}
 use Rattle.words.specs.Tests.{pick}
 use Rattle.words.proofs.Laws.{cases}
 use Rattle.plan.specs.Plan.{image as image', total_of, due_of}
-use Rattle.turns.specs.Turn.{on_fine, judge_of, Turn}
+use Rattle.turns.specs.Turn.{on_fine, Turn}
 use Rattle.turns.specs.declared.Stop.{Stop}
 use Rattle.turns.specs.declared.Stop.TheVariants.{Wait, Pause, Complete as Complete', Refused as Refused'}
 use Rattle.turns.proofs.TurnLaws.{pass_parts, pass_going, judge_body}
@@ -28,16 +29,14 @@ use Rattle.listing.specs.declared.Say.TheVariants.{Want, Next, Last}
 use Rattle.listing.specs.declared.Told.{Told}
 use Rattle.listing.proofs.TurnLaws.{told_is}
 use Rattle.rows.specs.declared.Row.{Row}
-use Rattle.rows.specs.declared.Row.TheVariants.{TooLong, Complete, Refused}
+use Rattle.verdicts.specs.Tests.{Verdict}
 use Rattle.promises.specs.Rules.{image}
-use Rattle.promises.specs.Listing.{Lists, piece, ended, next, last, closing_by}
+use Rattle.promises.specs.Listing.{Lists, piece, ended, next, last}
 use Rattle.promises.proofs.Accepts.{good_fresh}
 use Rattle.promises.proofs.Counted.{closed_never_waits}
 use Rattle.promises.proofs.FirstPasses.{one_turn}
 use Rattle.promises.proofs.ListingIs.{Room, due_least, say_long, say_short, say_want, say_next, turn_waits, turn_passes, want_fits, want≢last, next≢last}
 use Rattle.promises.proofs.Turns.{turn_room, pass≢halt, never_pause}
-use Rattle.verdicts.specs.Tests.{Verdict}
-use Rattle.std.specs.Prelude.{Ok, Err}
 
 -- how an input is cut: of what is held, what is still to come and how many bytes are wanted, at least one and at most so many come
 pub record Cutting : Type 0 where

@@ -7,6 +7,7 @@ use native.Mathlib.Omega.{arith}
 use lib.Dec.{eqb}
 use lib.ListN.{length, replicate}
 use borrow.Author.Tests.{eq-eqb}
+use Rattle.std.specs.Prelude.{Ok}
 use Rattle.words.specs.Tests.{pick}
 use Rattle.words.specs.Words.{two_at, four_at}
 use Rattle.words.proofs.Laws.{both_make}
@@ -16,7 +17,6 @@ use Rattle.headers.specs.Header.{codes_are, header_tests, header_of}
 use Rattle.promises.specs.Witness.{four, made}
 use Rattle.promises.specs.Bytes.{Bytes}
 use Rattle.promises.specs.Rules.{concat}
-use Rattle.std.specs.Prelude.{Ok}
 
 pub four_sum : (n : ℕ) → (n / 256 / 256 / 256 * 256 + n / 256 / 256 % 256) * 65536 + (n / 256 % 256 * 256 + n % 256) ≡ n
 four_sum n = omega arith

@@ -1,16 +1,17 @@
 -- States of one's own: calls begun fresh, over any pieces, say together what one call on all the bytes passed says, since a record that passed passes
 -- again on its own bytes alone.
-use Prim.Native.Nat.{ℕ, zero, suc, ◌+◌, ◌≤◌, ◌<◌}
+use Prim.Native.Nat.{ℕ, suc, ◌+◌, ◌≤◌, ◌<◌}
 use mathlib.Core.Path.{◌≡◌, refl, sym, ap, ap₂, ◌∙◌}
 use mathlib.Core.List.{List, ◌++◌, append_assoc}
 use mathlib.Core.Bool.{Bool, true, false}
 use mathlib.Core.Logic.{⊎_elim}
-use native.Mathlib.Nat.{zero-add}
+use native.Mathlib.Nat.{zero-add, pos_of_ne-zero}
 use native.Mathlib.Omega.{arith}
 use lib.Dec.{eqb}
 use lib.ListN.{length, take, drop}
 use lib.Seq.{length-take-le, drop_at, take-length, take-take, take-add}
 use borrow.Author.Tests.{eqb-true, eqb-false}
+use Rattle.std.specs.Prelude.{Ok}
 use Rattle.words.specs.Tests.{pick}
 use Rattle.words.proofs.Laws.{cases, within_true}
 use Rattle.plan.specs.Tables.{rows}
@@ -30,6 +31,7 @@ use Rattle.walk.specs.declared.Walked.{Walked}
 use Rattle.walk.proofs.GoodLaws.{good_known, good_later}
 use Rattle.turns.proofs.TurnLaws.{pass_parts, pass_long, pass_going, judge_body}
 use Rattle.walk.proofs.LoopLaws.{walk_pass, more_more, more_none}
+use Rattle.verdicts.specs.Tests.{Verdict}
 use Rattle.promises.specs.Rules.{Kind, kind_number}
 use Rattle.promises.specs.Pieces.{used_of}
 use Rattle.promises.specs.Arriving.{Own, begun, again}
@@ -40,8 +42,6 @@ use Rattle.walk.proofs.KeptLaws.{good_kept}
 use Rattle.promises.proofs.Parts.{header_take}
 use Rattle.promises.proofs.WitnessLater.{later_twelve}
 use Rattle.promises.proofs.Completed.{named_counts, named_lengths}
-use Rattle.verdicts.specs.Tests.{Verdict}
-use Rattle.std.specs.Prelude.{Ok}
 
 -- a plan's lists have as many rows as the code's arrays
 abbrev pub Rows : State → Type 0
@@ -77,12 +77,8 @@ twelve st g r h =
     (λ z.
     let n = eqb-false st.passed 0 z in
     let q = good_later st g n in
-    later_twelve st.kind st.plan st.passed k.0 k.1 q.0 r.0 r.1 (one_up st.passed n) h)
+    later_twelve st.kind st.plan st.passed k.0 k.1 q.0 r.0 r.1 (pos_of_ne-zero n) h)
     (cases (eqb st.passed 0))
-  where
-    one_up : (m : ℕ) → (m ≡ 0 → ⊥) → 1 ≤ m
-    one_up zero n = absurd (n refl)
-    one_up (suc m) n = omega arith
 
 -- a record that passed passes open on its own bytes alone
 pub pass_alone : (st : State) (b : List ℕ) (c : Bool) → good_state st ≡ true → Rows st → turn_of st b c ≡ Ok tt

@@ -12,6 +12,7 @@ use lib.IntN.{ℤ, pos, negsuc}
 use lib.ListN.{length, take, drop}
 use lib.Seq.{drop-cons, get_or-take}
 use borrow.Author.Tests.{eqb-true, eqb-false, eq-eqb, ne_eqb}
+use Rattle.std.specs.Prelude.{Ok, Err, Some, None}
 use Rattle.words.specs.Tests.{pick, both_of}
 use Rattle.words.specs.Words.{byte_at, two_at, four_at, place_of}
 use Rattle.words.proofs.Laws.{both_l, both_r, both_make, within_true, true_within}
@@ -40,7 +41,6 @@ use Rattle.leader.proofs.PairLaws.{length_none, length_some}
 use Rattle.headers.specs.Header.{codes_are, header_tests, header_of}
 use Rattle.promises.specs.Rules.{Coded, Is, Any, Record, blank, none, some}
 use Rattle.promises.specs.Newest.{Says, Numbered, Readable, Pair}
-use Rattle.std.specs.Prelude.{Ok, Err, Some, None}
 
 -- ---- texts
 
@@ -156,12 +156,19 @@ header_take ordinal c long n b h =
 
 -- ---- number fields
 
+-- the exponent of what is written
+exponent_of : Written → ℤ
+exponent_of (Ok (Some x)) = x.exponent
+exponent_of (Ok None) = pos 0
+exponent_of (Err x) = pos 0
+
 -- a whole number has no exponent
 pub no_exponent : {s : Shape} {bs : List ℕ} {r : Written} → Good true s bs r → s ≡ Whole → (m e : ℤ) → r ≡ number_written m e → e ≡ pos 0
-no_exponent (blanks s n) q m e z = cc
-no_exponent (whole w) q m e z = cc
-no_exponent (fixed w) q m e z = cc
-no_exponent (expo w g ds n l) q m e z = cc
+unfolding exponent_of
+no_exponent (blanks s n) q m e z = sym (ap exponent_of z)
+no_exponent (whole w) q m e z = sym (ap exponent_of z)
+no_exponent (fixed w) q m e z = sym (ap exponent_of z)
+no_exponent (expo w g ds n l) q m e z = absurd cc
 
 -- the field at a byte as what is written there: badly written is 6 at its first bad byte
 abbrev pub reading : List ℕ → ℕ → Form → Written → Field

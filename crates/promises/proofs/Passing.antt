@@ -9,7 +9,7 @@ use native.Mathlib.Omega.{arith}
 use lib.Dec.{eqb, leb, ltb}
 use lib.ListN.{length, take, drop}
 use borrow.Author.Tests.{eqb-true, eq-eqb, leb-true}
-use Rattle.words.specs.Answer.{refusal_at}
+use Rattle.std.specs.Prelude.{Ok, Err}
 use Rattle.words.specs.Tests.{pick}
 use Rattle.plan.specs.Plan.{total_of}
 use Rattle.plan.specs.declared.Plan.{Plan}
@@ -24,10 +24,9 @@ use Rattle.turns.specs.declared.Stop.TheVariants.{Wait, Complete}
 use Rattle.walk.specs.declared.Walked.{Walked}
 use Rattle.turns.proofs.TurnLaws.{pass_parts, pass_long, judge_ended, judge_body}
 use Rattle.walk.proofs.LoopLaws.{walk_halt, walk_pass}
+use Rattle.verdicts.specs.Tests.{Verdict}
 use Rattle.promises.proofs.Parts.{header_take}
 use Rattle.promises.proofs.Turns.{halt_same, pass≢halt, refused≢complete, wait≢complete, wait≢refused}
-use Rattle.verdicts.specs.Tests.{Verdict}
-use Rattle.std.specs.Prelude.{Ok, Err}
 
 complete_parts : (x e y z : Bool) (h t : Verdict) (o a : ℕ)
     → pick x (Err (pick e Complete (refused_at o a 9 0)))

@@ -9,6 +9,7 @@ use native.Mathlib.Nat.{zero-add}
 use native.Mathlib.Omega.{arith}
 use lib.ListN.{length, drop, length-drop}
 use lib.Seq.{drop-drop, drop-append-le}
+use Rattle.std.specs.Prelude.{Ok, Err}
 use Rattle.words.specs.declared.Refusal.{Refusal}
 use Rattle.walk.specs.State.{good_state, next_due}
 use Rattle.walk.specs.Walk.{turn_of, next_of, stopped, more, bad_stop, walk_of}
@@ -21,7 +22,6 @@ use Rattle.walk.proofs.TurnLaws.{good_next}
 use Rattle.promises.specs.Pieces.{used_of}
 use Rattle.promises.proofs.Steps.{by_turns}
 use Rattle.promises.proofs.Turns.{turn_refusal_stays, turn_pass_stays, turn_room, next_stays, rest_stays, pause≢refused}
-use Rattle.std.specs.Prelude.{Ok, Err}
 
 -- u bytes behind a passed record
 onward : (st : State) (b ys : List ℕ) (u : ℕ) → turn_of st b false ≡ Ok tt

@@ -7,6 +7,7 @@ use mathlib.Core.List.{List}
 use native.Mathlib.Omega.{arith}
 use lib.ListN.{length, take, drop}
 use lib.Seq.{length-take-le}
+use Rattle.std.specs.Prelude.{Ok, Err}
 use Rattle.plan.specs.Plan.{first_length, spot_of, zero_plan, total_of, first_codes, codes_of}
 use Rattle.plan.specs.declared.Plan.{Plan}
 use Rattle.bodies.specs.Named.{plan_of}
@@ -32,7 +33,6 @@ use Rattle.promises.proofs.Enough.{enough}
 use Rattle.promises.proofs.Parts.{header_take}
 use Rattle.promises.proofs.Least.{first_least}
 use Rattle.promises.proofs.FirstIs.{first_is}
-use Rattle.std.specs.Prelude.{Ok, Err}
 
 -- the first record that passed, by the rules
 pub first_passed : (kind : Kind) (bs : List ℕ) (c : Bool) → turn_of (fresh (kind_number kind)) bs c ≡ Ok tt

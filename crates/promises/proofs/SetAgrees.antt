@@ -10,6 +10,7 @@ use lib.Dec.{eqb}
 use lib.ListN.{length, take, drop, get_or, replicate, length-append, length-replicate, length-drop}
 use lib.Seq.{take_at, drop-append-add}
 use borrow.Author.Tests.{eq-eqb, eqb-true}
+use Rattle.std.specs.Prelude.{Ok, Err}
 use Rattle.words.specs.Tests.{pick}
 use Rattle.words.specs.Words.{place_of}
 use Rattle.words.specs.declared.Refusal.{Refusal}
@@ -42,12 +43,11 @@ use Rattle.promises.proofs.Parts.{number_reads}
 use Rattle.promises.proofs.PlanNamed.{plan_kept}
 use Rattle.promises.proofs.Records.{accepted_complete_records}
 use Rattle.promises.proofs.Uniform.{At, uniform}
-use Rattle.std.specs.Prelude.{Ok, Err}
 
 -- ---- the comparison
 
 refused≢agrees : (r : Refusal) → ◌≡◌ {A = Agreement} (Err r) (Ok tt) → ⊥
-refused≢agrees r e = let z : ◌≡◌ {A = ℕ} 0 1 = cc in omega arith
+refused≢agrees r e = cc
 
 -- every count from pointer p on is the directory's
 compare_to : (p : ℕ) (bs cs : List ℕ) → compare_from p bs cs ≡ Ok tt → (i : ℕ) → i < length cs → get_or cs i 0 ≡ count_of bs (p + i)

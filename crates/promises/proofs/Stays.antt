@@ -7,6 +7,7 @@ use mathlib.Core.List.{List, ◌++◌}
 use mathlib.Core.Bool.{Bool, true, false}
 use native.Mathlib.Nat.{suc-add}
 use lib.ListN.{drop}
+use Rattle.std.specs.Prelude.{Ok, Err}
 use Rattle.words.specs.declared.Refusal.{Refusal}
 use Rattle.walk.specs.State.{good_state, next_due}
 use Rattle.walk.specs.Walk.{turn_of, next_of, stopped, more, walk_of}
@@ -17,7 +18,6 @@ use Rattle.walk.specs.declared.Walked.{Walked}
 use Rattle.walk.proofs.LoopLaws.{walk_bad, walk_halt, walk_pass}
 use Rattle.promises.proofs.Steps.{by_turns}
 use Rattle.promises.proofs.Turns.{turn_refusal_stays, turn_pass_stays, next_stays, rest_stays, pause≢refused}
-use Rattle.std.specs.Prelude.{Ok, Err}
 
 -- a call's answer w that is a refusal stays for further bytes, more budget and either closing
 Stays : ℕ → State → List ℕ → Walked → ℕ → Type 0

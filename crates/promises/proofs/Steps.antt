@@ -5,6 +5,7 @@ use mathlib.Core.List.{List}
 use mathlib.Core.Bool.{Bool, true, false}
 use mathlib.Core.Logic.{⊎_elim}
 use lib.ListN.{drop}
+use Rattle.std.specs.Prelude.{Ok, Err}
 use Rattle.words.proofs.Laws.{cases}
 use Rattle.walk.specs.State.{good_state, next_due}
 use Rattle.walk.specs.Walk.{turn_of, next_of, stopped, more, bad_stop, walk_of}
@@ -15,7 +16,6 @@ use Rattle.turns.specs.declared.Stop.TheVariants.{Pause}
 use Rattle.walk.specs.declared.Walked.{Walked}
 use Rattle.walk.proofs.LoopLaws.{walk_bad, walk_pause, walk_halt, walk_pass}
 use Rattle.promises.specs.Pieces.{used_of}
-use Rattle.std.specs.Prelude.{Ok, Err}
 
 module _ (st : State) (b : List ℕ) (c : Bool) where
   pub used_bad : (n : ℕ) → good_state st ≡ false → used_of n st b c ≡ 0

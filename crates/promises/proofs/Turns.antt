@@ -10,7 +10,7 @@ use lib.Dec.{eqb, leb, ltb}
 use lib.ListN.{length, take, drop, length-append, get_or-append}
 use lib.Seq.{take-append-le, drop-append-le}
 use borrow.Author.Tests.{eq-eqb, ne_eqb, leb-true, leb-false, ltb-true, ltb-false}
-use Rattle.words.specs.Answer.{refusal_at}
+use Rattle.std.specs.Prelude.{Ok, Err}
 use Rattle.words.specs.Tests.{pick}
 use Rattle.words.specs.Words.{byte_at, two_at, four_at}
 use Rattle.words.specs.declared.Refusal.{Refusal}
@@ -30,12 +30,11 @@ use Rattle.turns.specs.declared.Stop.{Stop}
 use Rattle.turns.specs.declared.Stop.TheVariants.{Wait, Pause, Complete, Refused}
 use Rattle.turns.proofs.TurnLaws.{pass_long, judge_ended, judge_twelve, judge_fault, judge_part, judge_body}
 use Rattle.verdicts.specs.Tests.{Verdict}
-use Rattle.std.specs.Prelude.{Ok, Err}
 
 -- ---- the stops of a turn
 
 pub pass≢halt : {x : Stop} → ◌≡◌ {A = Turn} (Ok tt) (Err x) → ⊥
-pass≢halt e = let z : ◌≡◌ {A = ℕ} 0 1 = cc in omega arith
+pass≢halt e = cc
 
 pub halt_same : {x y : Stop} → ◌≡◌ {A = Turn} (Err x) (Err y) → x ≡ y
 halt_same e = cc
@@ -91,31 +90,31 @@ module _ (Q : Stop → Type 0) (st : State) (b : List ℕ) (c : Bool) (x : Stop)
   halt_is qc qw qr e = halt_of qc qw (qr 9 0) (qr 2 0) (λ y h. qr y.number y.place) (λ y h. qr y.number y.place) e
 
 pub wait≢pause : {n : ℕ} → Wait n ≡ Pause → ⊥
-wait≢pause e = let z : ◌≡◌ {A = ℕ} 0 1 = cc in omega arith
+wait≢pause e = cc
 
 pub wait≢complete : {n : ℕ} → Wait n ≡ Complete → ⊥
-wait≢complete e = let z : ◌≡◌ {A = ℕ} 0 1 = cc in omega arith
+wait≢complete e = cc
 
 pub wait≢refused : {n : ℕ} {x : Refusal} → Wait n ≡ Refused x → ⊥
-wait≢refused e = let z : ◌≡◌ {A = ℕ} 0 1 = cc in omega arith
+wait≢refused e = cc
 
 pub complete≢pause : Complete ≡ Pause → ⊥
-complete≢pause e = let z : ◌≡◌ {A = ℕ} 0 1 = cc in omega arith
+complete≢pause e = cc
 
 pub complete≢refused : {x : Refusal} → Complete ≡ Refused x → ⊥
-complete≢refused e = let z : ◌≡◌ {A = ℕ} 0 1 = cc in omega arith
+complete≢refused e = cc
 
 pub pause≢complete : Pause ≡ Complete → ⊥
-pause≢complete e = let z : ◌≡◌ {A = ℕ} 0 1 = cc in omega arith
+pause≢complete e = cc
 
 pub pause≢refused : {x : Refusal} → Pause ≡ Refused x → ⊥
-pause≢refused e = let z : ◌≡◌ {A = ℕ} 0 1 = cc in omega arith
+pause≢refused e = cc
 
 pub refused≢pause : {x : Refusal} → Refused x ≡ Pause → ⊥
-refused≢pause e = let z : ◌≡◌ {A = ℕ} 0 1 = cc in omega arith
+refused≢pause e = cc
 
 pub refused≢complete : {x : Refusal} → Refused x ≡ Complete → ⊥
-refused≢complete e = let z : ◌≡◌ {A = ℕ} 0 1 = cc in omega arith
+refused≢complete e = cc
 
 pub refused_same : {x y : Refusal} → Refused x ≡ Refused y → x ≡ y
 refused_same e = cc

@@ -9,7 +9,7 @@ use lib.Dec.{eqb, leb, ltb}
 use lib.ListN.{length, take, drop}
 use lib.Seq.{length-take-le, drop-drop}
 use borrow.Author.Tests.{eqb-true, eqb-false, ne_eqb, leb-true, leb-false, ltb-true, ltb-false}
-use Rattle.words.specs.Answer.{refusal_at}
+use Rattle.std.specs.Prelude.{Ok, Err}
 use Rattle.words.specs.Tests.{pick}
 use Rattle.words.specs.declared.Refusal.{Refusal}
 use Rattle.words.proofs.Laws.{cases, within_true}
@@ -21,7 +21,7 @@ use Rattle.plan.specs.declared.Spot.{Spot}
 use Rattle.plan.proofs.CodeLaws.{spot_first}
 use Rattle.bodies.specs.Bodies.{body_of}
 use Rattle.headers.specs.Header.{header_of}
-use Rattle.turns.specs.Turn.{refused_at, on_fine, ended_of, short_of}
+use Rattle.turns.specs.Turn.{Turn, refused_at, on_fine, ended_of, short_of}
 use Rattle.turns.specs.declared.Stop.TheVariants.{Wait, Complete, Refused}
 use Rattle.turns.proofs.TurnLaws.{judge_ended, judge_twelve, judge_fault, judge_part, judge_body}
 use Rattle.turns.proofs.FaultLaws.{FaultCan, need_of, header_can, body_can}
@@ -30,6 +30,7 @@ use Rattle.walk.specs.Walk.{turn_of, walk_of}
 use Rattle.walk.specs.declared.State.{State}
 use Rattle.walk.proofs.GoodLaws.{good_known, good_later}
 use Rattle.walk.proofs.TurnLaws.{good_next}
+use Rattle.verdicts.specs.Tests.{Verdict}
 use Rattle.promises.specs.Rules.{Kind, volume, leader, image, trailer, kind_number}
 use Rattle.promises.specs.Pieces.{used_of}
 use Rattle.promises.proofs.BodyIs.{Long}
@@ -37,8 +38,6 @@ use Rattle.promises.proofs.LaterIs.{long_is}
 use Rattle.promises.proofs.Steps.{by_turns}
 use Rattle.promises.proofs.Turns.{pass≢halt, halt_same, refused_same, pause≢refused, wait≢refused, complete≢refused}
 use Rattle.promises.proofs.Own.{Rows, rows_next, twelve}
-use Rattle.verdicts.specs.Tests.{Verdict}
-use Rattle.std.specs.Prelude.{Ok, Err}
 
 -- ---- a record that is due has the length that its fields need
 
@@ -99,16 +98,16 @@ need_is st g r h =
 abbrev Cut : Bool → ℕ → ℕ → Type 0
 Cut c here long = (c ≡ true) × (here < long)
 
-short_two : (o a n : ℕ) (c : Bool) (x : Refusal) → Err (short_of o a c n) ≡ Err (Refused x) → c ≡ true
+short_two : (o a n : ℕ) (c : Bool) (x : Refusal) → ◌≡◌ {A = Turn} (Err (short_of o a c n)) (Err (Refused x)) → c ≡ true
 unfolding short_of
 short_two o a n true x e = refl
 short_two o a n false x e = absurd (wait≢refused (halt_same e))
 
-ended_two : (o a n : ℕ) (c : Bool) (x : Refusal) → Err (ended_of o a n c) ≡ Err (Refused x) → x.number ≡ 2 → ⊥
+ended_two : (o a n : ℕ) (c : Bool) (x : Refusal) → ◌≡◌ {A = Turn} (Err (ended_of o a n c)) (Err (Refused x)) → x.number ≡ 2 → ⊥
 unfolding ended_of
 ended_two o a n c x = go (eqb n 0) c
   where
-    go : (z c : Bool) → Err (pick z (pick c Complete (Wait 0)) (refused_at o a 9 0)) ≡ Err (Refused x) → x.number ≡ 2 → ⊥
+    go : (z c : Bool) → ◌≡◌ {A = Turn} (Err (pick z (pick c Complete (Wait 0)) (refused_at o a 9 0))) (Err (Refused x)) → x.number ≡ 2 → ⊥
     go true true e t = complete≢refused (halt_same e)
     go true false e t = wait≢refused (halt_same e)
     go false c e t = let n = ap (λ (r : Refusal). r.number) (refused_same (halt_same e)) in omega arith

@@ -1,6 +1,6 @@
 -- `wider`: an edition that allows more accepts every file that a narrower one accepts, with the same plan. Each rule of the narrower edition gives the wider
 -- one's, record by record; the records behind the first are the same, one by one.
-use Prim.Native.Nat.{ℕ, zero, suc, ◌+◌, ◌*◌, ◌≤◌}
+use Prim.Native.Nat.{ℕ, zero, suc, ◌+◌, ◌*◌}
 use mathlib.Core.Path.{◌≡◌, refl, ap, ◌∙◌, subst}
 use mathlib.Core.List.{List, [], ◌∷◌, ◌++◌}
 use native.Mathlib.Omega.{arith}
@@ -15,11 +15,10 @@ use Rattle.fields.specs.Field.{field_bytes}
 use Rattle.plan.specs.declared.Plan.{Plan}
 use Rattle.promises.specs.Edition.{Edition, base, newest, Wider}
 use Rattle.promises.specs.Rules.{Kind, volume, leader, image, trailer, Due, Record, Follow}
-use Rattle.promises.specs.Rules.{text_record, slot_records, facility_records, slot_due, facility_due}
-use Rattle.promises.specs.Rules.{free, Says, Numbered, Readable, Pair, blank, none, some, VolumeDescriptor, Pointer, LeaderDescriptor, Summary, Map}
-use Rattle.promises.specs.Rules.{ImageDescriptor, First, promised, Accepted, pointer, line_due}
+use Rattle.promises.specs.Rules.{text_record, slot_records, facility_records, slot_due}
+use Rattle.promises.specs.Rules.{free, Says, Numbered, Readable, Pair, blank, none, some, Pointer, Summary, Map}
+use Rattle.promises.specs.Rules.{First, promised, Accepted, pointer}
 use Rattle.promises.specs.Newest as now
-use Rattle.std.specs.Prelude.{Ok, None}
 
 -- ---- records that are due, one by one
 

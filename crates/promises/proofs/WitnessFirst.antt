@@ -4,6 +4,7 @@ use mathlib.Core.Path.{◌≡◌, refl, ◌∙◌}
 use mathlib.Core.List.{List}
 use native.Mathlib.Omega.{arith}
 use lib.ListN.{length}
+use Rattle.std.specs.Prelude.{Ok}
 use Rattle.words.specs.Words.{place_of}
 use Rattle.digits.specs.Segments.{mantissa_of}
 use Rattle.decimal.specs.Scan.{number_in, decimal_of, written}
@@ -22,7 +23,6 @@ use Rattle.promises.specs.Bytes.{Bytes}
 use Rattle.promises.specs.Rules.{concat}
 use Rattle.promises.specs.Witness.{four, made, blanks, volume_parts, leader_parts, image_parts, trailer_parts, first_of}
 use Rattle.promises.proofs.Made.{made_header, made_length, made_bytes, bytes_concat, bytes_same, Each, Small}
-use Rattle.std.specs.Prelude.{Ok}
 
 pub blank : (n : ℕ) → Bytes (blanks n)
 unfolding blanks

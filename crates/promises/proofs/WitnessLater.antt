@@ -8,6 +8,7 @@ use native.Mathlib.Omega.{arith}
 use lib.Dec.{ltb, leb, eqb}
 use lib.ListN.{length, get_or, replicate, length-replicate}
 use borrow.Author.Tests.{ltb-true, ltb-false, leb-true, ne_eqb, eq-eqb}
+use Rattle.std.specs.Prelude.{Ok}
 use Rattle.words.specs.Tests.{pick, both_of, within_of}
 use Rattle.words.specs.Words.{place_of, two_at, four_at}
 use Rattle.words.proofs.Laws.{both_l, both_r, within_true}
@@ -38,7 +39,6 @@ use Rattle.headers.specs.Header.{header_of}
 use Rattle.promises.specs.Bytes.{Bytes}
 use Rattle.promises.specs.Witness.{four, made, class_bytes, pointer_parts, pointer_rest, line_parts, line_rest}
 use Rattle.promises.proofs.Made.{four_sum, four_bytes, made_header, made_length, made_bytes, bytes_concat, bytes_same, Small}
-use Rattle.std.specs.Prelude.{Ok}
 
 -- ---- the run of a record that is due
 

@@ -9,6 +9,7 @@ use native.Mathlib.Omega.{arith}
 use lib.Dec.{ltb, eqb}
 use lib.ListN.{length}
 use borrow.Author.Tests.{ltb-true, ltb-false, lt-ltb, eqb-true, eqb-false, eq-eqb, ne_eqb}
+use Rattle.std.specs.Prelude.{Result, Ok, Err, Some, None}
 use Rattle.words.specs.Tests.{pick, within_of}
 use Rattle.words.specs.Words.{place_of}
 use Rattle.words.specs.Answer.{bare_refusal, refusal_at, refused_as}
@@ -31,8 +32,10 @@ use Rattle.walk.specs.Walk.{begin_of, walk_of}
 use Rattle.walk.specs.declared.State.{State}
 use Rattle.walk.specs.declared.Walked.{Walked}
 use Rattle.lines.specs.View.{View, shown_view, view_of, sort_seen}
-use Rattle.copies.specs.Row.{copied_by, copied_of}
+use Rattle.copies.specs.Row.{Copied, copied_by, copied_of}
 use Rattle.copies.specs.Said.{copied_as}
+use Rattle.lines.specs.declared.Unshown.{Unshown}
+use Rattle.lines.specs.declared.Unshown.TheVariants as unshown
 use Rattle.promises.specs.Newest.{Says}
 use Rattle.promises.specs.Shown.{line_record, data_count}
 use Rattle.promises.proofs.Parts.{reading, by_means}
@@ -46,9 +49,6 @@ use Rattle.refusals.specs.Questions.{BeginRefuses, StateRefuses, CopyRefuses, so
 use Rattle.refusals.specs.Questions as questions
 use Rattle.refusals.proofs.Said as said
 use Rattle.refusals.proofs.Viewed.{view_to, view_from}
-use Rattle.std.specs.Prelude.{Result, Ok, Err, Some, None}
-use Rattle.lines.specs.declared.Unshown.{Unshown}
-use Rattle.lines.specs.declared.Unshown.TheVariants as unshown
 
 -- ---- 1: to begin
 
@@ -60,7 +60,7 @@ begin_exactly kind x = (λ e. to (within_of 1 kind 4) refl (said.begun_refused _
     begun b = pick b (Ok (fresh kind)) (Err (bare_refusal 1))
 
     to : (b : Bool) → within_of 1 kind 4 ≡ b → begun b ≡ Err x → BeginRefuses kind x
-    to true q e = absurd (let z : ◌≡◌ {A = ℕ} 0 1 = cc in omega arith)
+    to true q e = absurd cc
     to false q e = record { unknown = within_false 1 kind 4 q; is = cc }
 
     from : (b : Bool) → within_of 1 kind 4 ≡ b → BeginRefuses kind x → beginning_as (begun b) ≡ refused_as x
@@ -96,16 +96,16 @@ module _ (bs : List ℕ) (k m : ℕ) (x : Refusal) where
   copy_to e = go (view_of bs k) refl e
     where
       counts : (start count left : ℕ) → view_of bs k ≡ shown_view start count left → sort_seen bs ≡ 0 → (b : Bool) → ltb m count ≡ b
-          → pick b (Err (unshown.Refused (bare_refusal 15))) (Ok count) ≡ Err (unshown.Refused x) → CopyRefuses bs k m x
+          → ◌≡◌ {A = Copied} (pick b (Err (unshown.Refused (bare_refusal 15))) (Ok count)) (Err (unshown.Refused x)) → CopyRefuses bs k m x
       counts start count left q z true h f =
           let (p, t, (a, c, l)) = (line_named bs k start count left).0 q in
           let r = ltb-true m count h in
           row p t (sym (sort_seen_lem bs p t.first) ∙ z) (omega (arith, c)) (sym cc)
-      counts start count left q z false h f = absurd (let z : ◌≡◌ {A = ℕ} 0 1 = cc in omega arith)
+      counts start count left q z false h f = absurd cc
 
       shown : (start count left : ℕ) → view_of bs k ≡ shown_view start count left → (b : Bool) → eqb (sort_seen bs) 0 ≡ b
-          → pick b (pick (ltb m count) (Err (unshown.Refused (bare_refusal 15))) (Ok count)) (Err (unshown.Refused (bare_refusal 23))) ≡ Err (unshown.Refused x)
-          → CopyRefuses bs k m x
+          → ◌≡◌ {A = Copied} (pick b (pick (ltb m count) (Err (unshown.Refused (bare_refusal 15))) (Ok count)) (Err (unshown.Refused (bare_refusal 23))))
+          (Err (unshown.Refused x)) → CopyRefuses bs k m x
       shown start count left q true z f = counts start count left q (eqb-true (sort_seen bs) 0 z) (ltb m count) refl f
       shown start count left q false z f =
           let (p, t, n) = (line_named bs k start count left).0 q in
@@ -146,8 +146,8 @@ module _ (b : List ℕ) (n : ℕ) (x : Refusal) where
           (λ none q. badly a c h _ (bad_here b (place_of (byte_of n)) (form_of n) h none) (refuse_same 6 (bad_place b (place_of (byte_of n)) (form_of n)) q))
         where
           well : (w : Written) → Says b (byte_of n) (form_of n) w → reading b (byte_of n) (form_of n) w ≡ field.Refused x → FieldRefuses b n x
-          well (Ok (Some v)) s q = absurd (let z : ◌≡◌ {A = ℕ} 0 1 = cc in omega arith)
-          well (Ok None) s q = absurd (let z : ◌≡◌ {A = ℕ} 0 1 = cc in omega arith)
+          well (Ok (Some v)) s q = absurd cc
+          well (Ok None) s q = absurd cc
           well (Err y) s q = absurd (answer.never s.1 refl)
 
       held : (1 ≤ n) × (n ≤ 13) → (t : Bool) → ltb (length b) (place_of (byte_of n) + width_of (form_of n)) ≡ t

@@ -11,6 +11,7 @@ use lib.Dec.{leb}
 use lib.ListN.{length, get_or, take, drop, replicate, drop_of_length-le}
 use lib.Seq.{drop-cons, length-take-le}
 use borrow.Author.Tests.{leb-true, leb-false}
+use Rattle.std.specs.Prelude.{Err}
 use Rattle.words.specs.declared.Refusal.{Refusal}
 use Rattle.words.proofs.Laws.{cases}
 use Rattle.plan.specs.Tables.{slot_of, other_codes, rows}
@@ -35,7 +36,6 @@ use Rattle.refusals.proofs.Finds.{Finds}
 use Rattle.refusals.proofs.PartFinds.{header_finds}
 use Rattle.refusals.proofs.BodyFinds.{body_by, body_finds, first_finds}
 use Rattle.refusals.proofs.Judged.{Told, ended_is, judge_is}
-use Rattle.std.specs.Prelude.{Err}
 
 -- what is asked of a record of a run
 abbrev asked_by : Kind → Plan → ℕ → ℕ → Asked

@@ -11,6 +11,8 @@ use lib.IntN.{pos}
 use lib.ListN.{length}
 use lib.Seq.{slice}
 use borrow.Author.Tests.{eqb-true, eq-eqb, leb-true, le-leb}
+use Rattle.std.specs.Prelude.{Ok}
+use Rattle.std.specs.List.{AllByRecursion}
 use Rattle.words.specs.Tests.{both_of}
 use Rattle.words.specs.Words.{four_at, place_of}
 use Rattle.words.proofs.Laws.{both_l, both_r}
@@ -42,14 +44,13 @@ use Rattle.promises.proofs.BodyIs.{Long, class_text_lem, other_volume, other_lea
 use Rattle.refusals.specs.Refusals.{Rule, number, listed, pair, SaysNumber, SortIs, first_body, pointer_body, summary_body, map_body, line_body}
 use Rattle.refusals.specs.Refusals.{nothing, agreement}
 use Rattle.refusals.specs.Refusals as rules
-use Rattle.refusals.proofs.Finds.{Finds, finds_none, finds_then, first_then, finds_each, rules_of, Every, Alike, alike_self, alike_behind, finds_alike}
+use Rattle.refusals.proofs.Finds.{Finds, finds_none, finds_then, first_then, finds_each, rules_of, Alike, alike_self, alike_behind, finds_alike}
 use Rattle.refusals.proofs.PartFinds.{exact, text_finds, listed_finds, number_finds, pair_finds}
-use Rattle.std.specs.Prelude.{Ok}
 
 -- ---- tables
 
 -- what a computed test of each row gives
-rowed : {A : Type 0} (ok : A → Bool) (P : A → Type 0) → ((x : A) → ok x ≡ true → P x) → (xs : List A) → every ok xs ≡ true → Every P xs
+rowed : {A : Type 0} (ok : A → Bool) (P : A → Type 0) → ((x : A) → ok x ≡ true → P x) → (xs : List A) → every ok xs ≡ true → AllByRecursion P xs
 rowed ok P g [] e = tt
 rowed ok P g (x ∷ xs) e = (g x (both_l (ok x) (every ok xs) e), rowed ok P g xs (both_r (ok x) (every ok xs) e))
 

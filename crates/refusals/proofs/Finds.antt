@@ -5,6 +5,8 @@ use mathlib.Core.Logic.{◌↔◌, inl, inr}
 use mathlib.Core.List.{List, [], ◌∷◌, ◌++◌}
 use mathlib.Core.Bool.{Bool, true, false}
 use native.Mathlib.Omega.{arith}
+use Rattle.std.specs.Prelude.{Ok, Err}
+use Rattle.std.specs.List.{AllByRecursion}
 use Rattle.words.specs.Answer.{refusal_at}
 use Rattle.words.specs.Tests.{pick}
 use Rattle.words.specs.Words.{place_of}
@@ -16,7 +18,6 @@ use Rattle.bad_byte.specs.BadByte.{BadAt, PointsAt, bad, empty}
 use Rattle.bad_byte.proofs.Named.{bad_one, bad_never}
 use Rattle.fields.specs.Field.{field_bytes}
 use Rattle.refusals.specs.Refusals.{Mark, at_byte, in_field, Points, Rule, AllHold, FirstWrong}
-use Rattle.std.specs.Prelude.{Ok, Err}
 
 -- ---- a mark points at one place
 
@@ -68,7 +69,7 @@ pub record Finds (v : Verdict) (xs : List Rule) : Type 0 where
   pub fault : (y : Refusal) → v ≡ Err y → FirstWrong xs y.number y.place
 
 fine≢fault : (y : Refusal) → ◌≡◌ {A = Verdict} (Ok tt) (Err y) → ⊥
-fine≢fault y e = let z : ◌≡◌ {A = ℕ} 0 1 = cc in omega arith
+fine≢fault y e = cc
 
 -- and the other way
 pub finds_fine : (v : Verdict) (xs : List Rule) → Finds v xs → AllHold xs → v ≡ Ok tt
@@ -124,12 +125,7 @@ abbrev pub rules_of : {A : Type 0} → (A → List Rule) → List A → List Rul
 rules_of g [] = []
 rules_of g (x ∷ xs) = g x ++ rules_of g xs
 
--- what holds of each thing of a list
-abbrev pub Every : {A : Type 0} → (A → Type 0) → List A → Type 0
-Every P [] = Unit {0}
-Every P (x ∷ xs) = P x × Every P xs
-
-pub finds_each : {A : Type 0} (g : A → List Test) (h : A → List Rule) (xs : List A) → Every (λ (x : A). Finds (first_fault (g x)) (h x)) xs
+pub finds_each : {A : Type 0} (g : A → List Test) (h : A → List Rule) (xs : List A) → AllByRecursion (λ (x : A). Finds (first_fault (g x)) (h x)) xs
     → Finds (first_fault (each g xs)) (rules_of h xs)
 unfolding first_fault
 finds_each g h [] f = finds_none

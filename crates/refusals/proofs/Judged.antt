@@ -9,7 +9,7 @@ use native.Mathlib.Omega.{arith}
 use lib.Dec.{eqb, ltb}
 use lib.ListN.{length, take}
 use borrow.Author.Tests.{eqb-false, ne_eqb, ltb-true, ltb-false}
-use Rattle.words.specs.Answer.{refusal_at}
+use Rattle.std.specs.Prelude.{Ok, Err}
 use Rattle.words.specs.Tests.{pick}
 use Rattle.words.specs.declared.Refusal.{Refusal}
 use Rattle.words.proofs.Laws.{cases}
@@ -18,14 +18,13 @@ use Rattle.plan.specs.declared.Plan.{Plan}
 use Rattle.plan.specs.declared.Due.{Due}
 use Rattle.headers.specs.Header.{header_of}
 use Rattle.bodies.specs.Bodies.{body_of}
-use Rattle.turns.specs.Turn.{refused_at, on_fine, judge_of, ended_of, short_of}
+use Rattle.turns.specs.Turn.{Turn, refused_at, on_fine, judge_of, ended_of, short_of}
 use Rattle.turns.specs.declared.Stop.TheVariants.{Wait, Complete, Refused}
 use Rattle.turns.proofs.TurnLaws.{judge_ended, judge_twelve, judge_fault, judge_part, judge_body}
+use Rattle.verdicts.specs.Tests.{Verdict}
 use Rattle.promises.proofs.Turns.{halt_same, pass≢halt, refused_same, wait≢refused, complete≢refused}
 use Rattle.refusals.specs.Refusals.{Asked, AllHold, header, Wrong, behind, short, head, part, body}
 use Rattle.refusals.proofs.Finds.{Finds, finds_fine, finds_fault}
-use Rattle.verdicts.specs.Tests.{Verdict}
-use Rattle.std.specs.Prelude.{Ok, Err}
 
 -- a refusal by its numbers
 pub same_refusal : (x : Refusal) {o p : ℕ} → x.«record» ≡ o → x.place ≡ p → record { number = x.number; «record» = o; place = p } ≡ x
@@ -33,12 +32,12 @@ same_refusal x e f = ap₂ (λ (o p : ℕ). record { number = x.number; «record
 
 -- too few bytes: refused exactly where the file is closed
 short_to : (Q : Refusal → Type 1) (o at n : ℕ) (c : Bool) (x : Refusal) → (c ≡ true → Q (record { number = 2; «record» = o; place = at + 0 }))
-    → Err (short_of o at c n) ≡ Err (Refused x) → Q x
+    → ◌≡◌ {A = Turn} (Err (short_of o at c n)) (Err (Refused x)) → Q x
 unfolding short_of
 short_to Q o at n true x q e = subst Q (refused_same (halt_same e)) (q refl)
 short_to Q o at n false x q e = absurd (wait≢refused (halt_same e))
 
-short_from : (o at n : ℕ) (c : Bool) → c ≡ true → Err (short_of o at c n) ≡ Err (refused_at o at 2 0)
+short_from : (o at n : ℕ) (c : Bool) → c ≡ true → ◌≡◌ {A = Turn} (Err (short_of o at c n)) (Err (refused_at o at 2 0))
 unfolding short_of
 short_from o at n c e = ap (λ (b : Bool). Err (pick b (refused_at o at 2 0) (Wait n))) e
 
@@ -54,7 +53,7 @@ module _ (kind : ℕ) (p : Plan) (k : ℕ) (s : Due) (b : List ℕ) (c : Bool) w
     ended_to x e = go (eqb (length b) 0) refl c (sym (judge_ended kind p k s b c over) ∙ e)
       where
         go : (z : Bool) → eqb (length b) 0 ≡ z → (d : Bool)
-            → Err (pick z (pick d Complete (Wait 0)) (refused_at s.ordinal s.start 9 0)) ≡ Err (Refused x) → Told [] x
+            → ◌≡◌ {A = Turn} (Err (pick z (pick d Complete (Wait 0)) (refused_at s.ordinal s.start 9 0))) (Err (Refused x)) → Told [] x
         go true q true f = absurd (complete≢refused (halt_same f))
         go true q false f = absurd (wait≢refused (halt_same f))
         go false q d f =
@@ -76,7 +75,8 @@ module _ (kind : ℕ) (p : Plan) (k : ℕ) (s : Due) (b : List ℕ) (c : Bool) w
   module _ (d : Asked) (ds : List Asked) (going : k < total_of kind p) (long : s.length ≡ d.long)
       (headed : Finds (header_of s.ordinal s.codes s.length b) (header (suc k) d.Codes d.long b))
       (bodied : s.length ≤ length b → Finds (body_of kind s.run p k (take s.length b)) (d.body k (take d.long b))) where
-    told : (x : Refusal) (m q : ℕ) → Wrong c k b m q (d ∷ ds) → Err (refused_at s.ordinal s.start m q) ≡ Err (Refused x) → Told (d ∷ ds) x
+    told : (x : Refusal) (m q : ℕ) → Wrong c k b m q (d ∷ ds) → ◌≡◌ {A = Turn} (Err (refused_at s.ordinal s.start m q)) (Err (Refused x))
+        → Told (d ∷ ds) x
     told x m q w e = subst (Told (d ∷ ds)) (refused_same (halt_same e)) (q, w, refl, refl)
 
     judge_to : (x : Refusal) → judge_of kind p k s b c ≡ Err (Refused x) → Told (d ∷ ds) x

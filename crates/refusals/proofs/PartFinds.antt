@@ -2,7 +2,7 @@
 -- leader's pair, each by the cases of what the bytes say.
 use Prim.Native.Nat.{ℕ, ◌+◌, ◌-◌, ◌≤◌}
 use Prim.Native.String.{String}
-use mathlib.Core.Path.{◌≡◌, refl, sym, ◌∙◌, subst}
+use mathlib.Core.Path.{◌≡◌, refl, sym, ap, ◌∙◌, subst}
 use mathlib.Core.Logic.{◌⊎◌, inl, inr}
 use mathlib.Core.List.{List, [], ◌∷◌, ◌++◌}
 use mathlib.Core.Bool.{Bool, true, false, false≢true}
@@ -11,6 +11,7 @@ use lib.Dec.{eqb}
 use lib.IntN.{ℤ, pos, negsuc}
 use lib.ListN.{length}
 use borrow.Author.Tests.{eqb-true, eqb-false, eq-eqb}
+use Rattle.std.specs.Prelude.{Ok, Err, Some, None}
 use Rattle.words.specs.Answer.{refusal_at}
 use Rattle.words.specs.Tests.{pick, within_of}
 use Rattle.words.specs.Words.{four_at, place_of}
@@ -37,7 +38,6 @@ use Rattle.promises.specs.Newest.{Says, Numbered}
 use Rattle.promises.proofs.Parts.{CodedBy, codes_to, codes_from, text_is, reading, by_means, no_exponent}
 use Rattle.refusals.specs.Refusals.{in_field, Points, Rule, rule, unread, FirstWrong, header, text, SomeNumber, number, listed, Counts, pair}
 use Rattle.refusals.proofs.Finds.{Finds, finds_none, finds_test}
-use Rattle.std.specs.Prelude.{Ok, Err, Some, None}
 
 -- ---- texts and headers
 
@@ -61,10 +61,21 @@ header_finds ordinal c long b =
 
 -- ---- fields
 
+-- the number of what is written
+units_of : Written → ℤ
+units_of (Ok (Some x)) = x.units
+units_of (Ok None) = pos 0
+units_of (Err x) = pos 0
+
 module _ (r : List ℕ) (byte : ℕ) (k : Form) where
   -- bytes say one thing
   pub said_once : {w w' : Written} → Says r byte k w → Says r byte k w' → w ≡ w'
   said_once {w} {w'} f g = sym (answer.reads k (field_bytes r (place_of byte) k) w f) ∙ answer.reads k (field_bytes r (place_of byte) k) w' g
+
+  -- and one number
+  said_units : {v v' e e' : ℤ} → Says r byte k (number_written v e) → Says r byte k (number_written v' e') → v ≡ v'
+  unfolding units_of
+  said_units f g = ap units_of (said_once f g)
 
   -- and what they say is never that they are badly written
   never_bad : Says r byte k badly_written → ⊥
@@ -104,7 +115,7 @@ module _ (r : List ℕ) (byte : ℕ) (k : Form) where
           ))
           (λ q. (
             λ h.
-                let z : n ≡ h.0 = let y = said_once s h.1.says in cc in
+                let z : n ≡ h.0 = let y = said_units s h.1.says in cc in
                 within_false lo n hi q (let a = h.1.least in omega arith, let b = h.1.most in omega arith),
             refl,
             refl,
@@ -112,7 +123,7 @@ module _ (r : List ℕ) (byte : ℕ) (k : Form) where
           (λ q. finds_none)
       in_range_lem (negsuc n) e s =
           finds_test false 7 (place_of byte) (Ok tt) _ [] (λ q. absurd (false≢true q))
-          (λ q. (λ h. let y = said_once s h.1.says in let z : ◌≡◌ {A = ℕ} 0 1 = cc in omega arith, refl, refl)) (λ q. finds_none)
+          (λ q. (λ h. let y = said_units s h.1.says in cc, refl, refl)) (λ q. finds_none)
 
       -- form, then range
       pub number_finds : Finds (first_fault (number_tests (at r byte k) (place_of byte) (last_of byte k) lo hi)) (number r byte k lo hi)
@@ -128,7 +139,7 @@ module _ (r : List ℕ) (byte : ℕ) (k : Form) where
               (λ q. in_range_lem x.units x.exponent s)
           well (Ok None) s =
               finds_test false 6 (last_of byte k) (Ok tt) _ _ (λ q. absurd (false≢true q))
-              (λ q. (λ h. let y = said_once s h.2 in let z : ◌≡◌ {A = ℕ} 0 1 = cc in omega arith, refl, points_blank s)) (λ q. absurd (false≢true q))
+              (λ q. (λ h. let y = said_once s h.2 in cc, refl, points_blank s)) (λ q. absurd (false≢true q))
           well (Err x) s = absurd (never_bad s)
 
 -- ---- a leader's pairs
@@ -167,15 +178,15 @@ module _ (r : List ℕ) (byte : ℕ) (k : Form) (here : place_of byte + 6 ≤ le
 
   -- where the count is 0 the length is not read
   no_length : Counts r byte 0 → Finds (Ok tt) lengths
-  no_length c = record { fine = λ e. (inl c, (inl c, tt)); fault = λ y e. absurd (let z : ◌≡◌ {A = ℕ} 0 1 = cc in omega arith) }
+  no_length c = record { fine = λ e. (inl c, (inl c, tt)); fault = λ y e. absurd cc }
 
   length_finds : (n : ℕ) → Says r byte I6 (number_written (pos n) (pos 0)) → Finds (first_fault (pick (eqb n 0) [] measuring)) lengths
   unfolding first_fault
   length_finds n s = go (eqb n 0) refl
     where
       some : (n ≡ 0 → ⊥) → Counts r byte 0 → ⊥
-      some h (inl c) = let y = said_once r byte I6 s c.0 in let z : ◌≡◌ {A = ℕ} 0 1 = cc in omega arith
-      some h (inr c) = h (let y = said_once r byte I6 s c in cc)
+      some h (inl c) = let y = said_once r byte I6 s c.0 in cc
+      some h (inr c) = h (let y = said_units r byte I6 s c in cc)
 
       go : (b : Bool) → eqb n 0 ≡ b → Finds (first_fault (pick b [] measuring)) lengths
       go true e = no_length (inr (subst (λ (x : ℕ). Says r byte I6 (number_written (pos x) (pos 0))) (eqb-true n 0 e) s))
@@ -194,16 +205,16 @@ module _ (r : List ℕ) (byte : ℕ) (k : Form) (here : place_of byte + 6 ≤ le
       (λ e. absurd (false≢true e)))
     where
       below : (n : ℕ) → Says r byte I6 (number_written (negsuc n) (pos 0)) → (m : ℕ) → Counts r byte m → ⊥
-      below n s m (inl c) = let y = said_once r byte I6 s c.0 in let z : ◌≡◌ {A = ℕ} 0 1 = cc in omega arith
-      below n s m (inr c) = let y = said_once r byte I6 s c in let z : ◌≡◌ {A = ℕ} 0 1 = cc in omega arith
+      below n s m (inl c) = let y = said_once r byte I6 s c.0 in cc
+      below n s m (inr c) = let y = said_units r byte I6 s c in cc
 
       blank : Says r byte I6 blank_written → (m : ℕ) → Counts r byte m → m ≡ 0
       blank s m (inl c) = c.1
-      blank s m (inr c) = let y = said_once r byte I6 s c in absurd (let z : ◌≡◌ {A = ℕ} 0 1 = cc in omega arith)
+      blank s m (inr c) = let y = said_once r byte I6 s c in absurd cc
 
       given : (n : ℕ) → Says r byte I6 (number_written (pos n) (pos 0)) → (m : ℕ) → Counts r byte m → m ≡ n
-      given n s m (inl c) = let y = said_once r byte I6 s c.0 in absurd (let z : ◌≡◌ {A = ℕ} 0 1 = cc in omega arith)
-      given n s m (inr c) = let y = said_once r byte I6 s c in cc
+      given n s m (inl c) = let y = said_once r byte I6 s c.0 in absurd cc
+      given n s m (inr c) = let y = said_units r byte I6 s c in cc
 
       some : (v e : ℤ) → Says r byte I6 (number_written v e)
           → Finds (first_fault (pairing (reading r byte I6 (number_written v e)))) (pair r byte k least most shortest longest)

@@ -9,6 +9,7 @@ use native.Mathlib.Omega.{arith}
 use lib.Dec.{eqb}
 use lib.ListN.{length, get_or}
 use borrow.Author.Tests.{eqb-true, eqb-false, eq-eqb, ne_eqb}
+use Rattle.std.specs.Prelude.{Ok, Err}
 use Rattle.words.specs.Tests.{pick}
 use Rattle.words.specs.Words.{place_of}
 use Rattle.words.specs.Answer.{refusal_at, refused_as}
@@ -27,13 +28,12 @@ use Rattle.promises.proofs.SetAgrees.{directory_pauses, directory_complete, dire
 use Rattle.refusals.specs.Questions.{Counted, SetRefuses, directory as own, many, count}
 use Rattle.refusals.proofs.Said as said
 use Rattle.refusals.proofs.Walked.{refused_to, refused_from}
-use Rattle.std.specs.Prelude.{Ok, Err}
 
 refused_same : {x y : Refusal} → ◌≡◌ {A = Agreement} (Err x) (Err y) → x ≡ y
 refused_same e = cc
 
 agrees≢refused : (x : Refusal) → ◌≡◌ {A = Agreement} (Ok tt) (Err x) → ⊥
-agrees≢refused x e = let z : ◌≡◌ {A = ℕ} 0 1 = cc in omega arith
+agrees≢refused x e = cc
 
 -- ---- the first count that differs
 

@@ -5,13 +5,13 @@ use mathlib.Core.Path.{◌≡◌, refl, sym, ap, ap₂, ◌∙◌, subst}
 use mathlib.Core.Logic.{◌↔◌}
 use mathlib.Core.List.{List, []}
 use mathlib.Core.Bool.{Bool, true, false}
-use native.Mathlib.Omega.{arith}
 use native.Mathlib.Numerals.{add-one}
 use lib.Dec.{ltb}
 use lib.ListN.{length, take, drop}
 use borrow.Author.Tests.{ltb-true, ltb-false}
+use Rattle.std.specs.Prelude.{Ok, Err}
 use Rattle.words.specs.Tests.{within_of}
-use Rattle.words.specs.Answer.{bare_refusal, refused_as, refusal_at}
+use Rattle.words.specs.Answer.{bare_refusal, refused_as}
 use Rattle.words.specs.declared.Refusal.{Refusal}
 use Rattle.words.proofs.Laws.{within_true, within_false, true_within}
 use Rattle.plan.specs.Plan.{line_codes, first_length}
@@ -28,6 +28,8 @@ use Rattle.walk.specs.declared.Walked.{Walked}
 use Rattle.lines.specs.View.{on_verdict, found_in, shown_of, line_at, line_of, behind_first, first_of, view_of, View, shown_view}
 use Rattle.lines.specs.Said.{view_as}
 use Rattle.lines.proofs.ViewLaws.{at_short, at_whole, line_in, line_out}
+use Rattle.verdicts.specs.Tests.{Verdict}
+use Rattle.lines.specs.declared.Unshown.TheVariants as unshown
 use Rattle.promises.specs.Rules.{image, Coded, Is}
 use Rattle.promises.specs.Newest.{ImageDescriptor}
 use Rattle.promises.specs.Shown.{line_start, line_record}
@@ -46,18 +48,15 @@ use Rattle.refusals.proofs.BodyFinds.{body_finds}
 use Rattle.refusals.proofs.Said as said
 use Rattle.refusals.proofs.Judged.{same_refusal}
 use Rattle.refusals.proofs.Walked.{first_refused}
-use Rattle.verdicts.specs.Tests.{Verdict}
-use Rattle.lines.specs.declared.Unshown.TheVariants as unshown
-use Rattle.std.specs.Prelude.{Ok, Err}
 
 refused_same : {x y : Refusal} → ◌≡◌ {A = View} (Err (unshown.Refused x)) (Err (unshown.Refused y)) → x ≡ y
 refused_same e = cc
 
 wait≢refused : (n : ℕ) (x : Refusal) → ◌≡◌ {A = View} (Err (unshown.Wait n)) (Err (unshown.Refused x)) → ⊥
-wait≢refused n x e = let z : ◌≡◌ {A = ℕ} 0 1 = cc in omega arith
+wait≢refused n x e = cc
 
 shown≢refused : (a b c : ℕ) (x : Refusal) → ◌≡◌ {A = View} (shown_view a b c) (Err (unshown.Refused x)) → ⊥
-shown≢refused a b c x e = let z : ◌≡◌ {A = ℕ} 0 1 = cc in omega arith
+shown≢refused a b c x e = cc
 
 -- ---- under a plan
 

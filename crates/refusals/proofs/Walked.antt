@@ -8,6 +8,7 @@ use mathlib.Core.Bool.{Bool, true}
 use native.Mathlib.Omega.{arith}
 use lib.ListN.{length, take, drop, take-append-drop, length-append}
 use lib.Seq.{take_at, drop_at, length-take-le}
+use Rattle.std.specs.Prelude.{Ok, Err}
 use Rattle.words.specs.Answer.{refused_as}
 use Rattle.words.specs.declared.Refusal.{Refusal}
 use Rattle.plan.specs.Tables.{rows}
@@ -38,7 +39,6 @@ use Rattle.promises.proofs.Accepts.{plan_counts, plan_lengths}
 use Rattle.refusals.specs.Refusals.{Asked, first_asked, later_asked, Wrong, Before, none, some, Refuses}
 use Rattle.refusals.proofs.Said.{said_refused}
 use Rattle.refusals.proofs.AskedIs.{later_told, first_told, same_asked}
-use Rattle.std.specs.Prelude.{Ok, Err}
 
 stop_of : (w v : Walked) → w ≡ v → w.stop ≡ v.stop
 stop_of w v e = ap (λ (x : Walked). x.stop) e

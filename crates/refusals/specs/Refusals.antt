@@ -2,7 +2,6 @@
 -- its rules in the order in which they are judged, one rule, one line, with its refusal number and document 01's byte number, in the words of
 -- `Rules`. No test of the code occurs here, no turn, state or budget. Assumes nothing.
 use Rattle.std.specs.Prelude.{ℕ, zero, suc, ◌+◌, ◌*◌, ◌≤◌, ◌<◌, ◌≡◌, ◌⊎◌, List, [], ◌∷◌, ◌++◌, Bool, true, ℤ, pos, length, take, drop, get_or, replicate}
-use Rattle.std.specs.Prelude.{Ok, None}
 use Prim.Native.String.{String}
 use Rattle.words.specs.Words.{four_at, place_of}
 use Rattle.words.specs.declared.Refusal.{Refusal}

@@ -19,31 +19,6 @@ use Rattle.samples.specs.Samples.{is_complex, group_of, place_in, clipped, patte
 pub group_complex : (sort : ℕ) → is_complex sort ≡ true → group_of sort ≡ 8
 group_complex sort e = ap (λ (b : Bool). pick b 8 2) e
 
-pub group_counts : (sort : ℕ) → is_complex sort ≡ false → group_of sort ≡ 2
-group_counts sort e = ap (λ (b : Bool). pick b 8 2) e
-
--- ---- the clipped place
-
-clip_out : (len at : ℕ) → len ≤ at → len ≡ clipped len at
-clip_out len at h = sym (ap (λ (b : Bool). pick b at len) (le-ltb at len h))
-
-clip_in : (len at : ℕ) → at ≤ len → at ≡ clipped len at
-clip_in len at h = go (ltb at len) refl
-  where
-    go : (b : Bool) → ltb at len ≡ b → at ≡ pick b at len
-    go true e = refl
-    go false e = omega (arith, ltb-false at len e)
-
-module _ (len start sort g i : ℕ) (is : group_of sort ≡ g) where
-  pub behind : len ≤ start + g * i → len ≡ clipped len (start + group_of sort * i)
-  behind h = clip_out len (start + g * i) h ∙ ap (λ (n : ℕ). clipped len (start + n * i)) (sym is)
-
-  pub within : start + g * i ≤ len → start + g * i ≡ clipped len (start + group_of sort * i)
-  within h = clip_in len (start + g * i) h ∙ ap (λ (n : ℕ). clipped len (start + n * i)) (sym is)
-
-pub far : (len start x : ℕ) → len ≤ start → len ≡ clipped len (start + x)
-far len start x h = clip_out len (start + x) (omega arith)
-
 -- ---- what stands at the clipped place
 
 module _ (bs : List ℕ) (at : ℕ) where

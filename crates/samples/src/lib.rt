@@ -45,20 +45,8 @@ pub fn is_complex(sort: u64) -> bool
 fn place_of(len: u64, start: u64, sort: u64, index: u64) -> u64
     ensures { (result ≡ clipped len (start + group_of sort * index)) × (result ≤ len) }
 {
-    if start >= len {
-        return len;
-    }
-    let room = len - start;
-    if is_complex(sort) {
-        if index > room / 8 {
-            return len;
-        }
-        return start + 8 * index;
-    }
-    if index > room / 2 {
-        return len;
-    }
-    start + 2 * index
+    let group = if is_complex(sort) { 8 } else { 2 };
+    start.saturating_add(index.saturating_mul(group)).min(len)
 }
 
 // The two patterns that stand there, high byte first.

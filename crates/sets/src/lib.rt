@@ -20,6 +20,7 @@ fn differing(place: u64) -> Agreement
 }
 
 // The first pointer whose count differs.
+#[tactic(auto, unfolding(crate::specs::Set::compare_from, crate::specs::Set::count_of))]
 fn compare(directory: &[u8], counts: &[u64]) -> Agreement
     requires { length counts.now ≤ 6 }
     ensures { result ≡ compare_from 1 directory.now counts.now }

@@ -48,14 +48,13 @@ impl Going {
     fn fetch<R: Read>(self, buffer: &mut [u8], want: u64, input: &mut R) -> Result<Going, Failed> {
         let from = self.held.min(buffer.len());
         let most = (want as usize).min(buffer.len() - from);
-        match input.read(&mut buffer[from..from + most]) {
-            Ok(got) => Ok(Going {
-                held: from + got,
-                closed: got == 0,
-                ..self
-            }),
-            Err(_) => Err(Failed::Read),
-        }
+        let room = &mut buffer[from..from + most];
+        let got = input.read(room).map_err(|_| Failed::Read)?;
+        Ok(Going {
+            held: from + got,
+            closed: got == 0,
+            ..self
+        })
     }
 
     // One turn, and what it asks for; behind the last row nothing goes on. No more is read than is wanted,

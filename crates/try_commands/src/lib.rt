@@ -38,10 +38,7 @@ impl<'a> Numbers<'a> {
 
     // The text behind the byte that ended the last number.
     pub fn text(self) -> &'a [u8] {
-        match self.rest.split_first() {
-            Some((_, text)) => text,
-            None => self.rest,
-        }
+        self.rest.get(1..).unwrap_or(&[])
     }
 }
 
@@ -104,15 +101,16 @@ where
     let mut bytes = vec![in rt.alloc(); 0u8; held]?;
     for line in BufReader::new(rt.alloc(), rt.reader())?.split(rt.alloc(), b'\n') {
         let line = line?;
-        let Some((op, rest)) = line.split_first() else {
+        let Some((&op, rest)) = line.split_first() else {
             continue;
         };
-        if *op == b'#' {
+        if op == b'#' {
             rt.write_all(&line)?;
             rt.write_all(b"\n")?;
         } else {
-            change(*op, Numbers { rest }, &mut bytes);
-            ask(*op, Numbers { rest }, &bytes)?;
+            let numbers = Numbers { rest };
+            change(op, numbers, &mut bytes);
+            ask(op, numbers, &bytes)?;
         }
     }
     Ok(())
@@ -124,11 +122,11 @@ pub struct Refused(pub Refusal);
 
 impl fmt::Display for Refused {
     fn fmt<W: fmt::Write>(&self, f: &mut fmt::Formatter<W>) -> fmt::Result {
-        let Refusal {
-            number,
-            record,
-            place,
-        } = self.0;
-        write!(f, "REFUSED {number} RECORD {record} AT {place}")
+        let Refused(why) = self;
+        write!(
+            f,
+            "REFUSED {} RECORD {} AT {}",
+            why.number, why.record, why.place
+        )
     }
 }

@@ -2,7 +2,7 @@
 // one to a line; tests/examples/lines.py makes them and what is to be answered. The program holds 65,536 bytes.
 //
 //   # TEXT                   is printed as it stands
-//   c, p, b, q               change the bytes held (try_commands::change)
+//   c, p, b, q               change the bytes held (try_commands::run)
 //   l LENGTH LINE            the view of a line in the first LENGTH bytes; then of the bytes that the
 //                            caller is handed as its pixels their count and their check number
 //   r LENGTH LINE MANY OLD   the row copy to a row of MANY samples that were all OLD, at most 256; then
@@ -19,9 +19,11 @@ const HELD: usize = 65536;
 
 // The most samples of a row, and the most counts of a set.
 const SAMPLES: usize = 256;
+
 const COUNTS: usize = 16;
 
 // Why a line is not shown, as it is printed.
+#[derive(Drop)]
 struct Why(Unshown);
 
 impl fmt::Display for Why {
@@ -35,9 +37,10 @@ impl fmt::Display for Why {
 
 // One number for bytes in their order, printed in place of what may be many: one other byte changes it.
 fn check_of(bytes: &[u8]) -> u64 {
-    bytes.iter().fold(0, |sum, byte| {
-        (sum % 65521 * 257 + u64::from(*byte) + 1) % 65521
-    })
+    let sum = bytes
+        .iter()
+        .fold(0, |sum, byte| sum % 65521 * 257 + u64::from(*byte) + 1);
+    sum % 65521
 }
 
 fn view<P: Print>(rt: &P, bytes: &[u8], line: u64) -> std::io::Result<()> {
@@ -85,7 +88,10 @@ fn ask<R: AllocGlobal + Print>(
             let mut row = [(numbers.number() & 0xffff) as u16; SAMPLES];
             copy(rt, bytes, line, &mut row[..many])
         }
-        b's' => check(rt, bytes, &numbers.take(COUNTS).collect(rt.alloc())?),
+        b's' => {
+            let counts: Vec<u64> = numbers.take(COUNTS).collect(rt.alloc())?;
+            check(rt, bytes, &counts)
+        }
         _ => Ok(()),
     }
 }

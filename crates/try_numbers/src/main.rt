@@ -12,7 +12,7 @@
 //   4 PLACE LENGTH      the four bytes from PLACE on, of the first LENGTH bytes
 #![tactic(auto)]
 
-use decimal::{Form, Number};
+use decimal::{Form, Number, Written};
 use fields::Field;
 use std::fmt;
 use try_commands::{Numbers, Refused, part};
@@ -33,7 +33,24 @@ fn form_of(code: u64) -> Form {
 }
 
 // What a text or a field says, as it is printed; an error has its own words.
+#[derive(Drop)]
 struct Answer<E>(Result<Option<Number>, E>);
+
+impl From<Written> for Answer<&'static str> {
+    fn from(written: Written) -> Self {
+        Answer(written.map_err(|_| "BAD"))
+    }
+}
+
+impl From<Field> for Answer<Refused> {
+    fn from(field: Field) -> Self {
+        Answer(match field {
+            Field::Value(units, exponent) => Ok(Some(Number { units, exponent })),
+            Field::Blank => Ok(None),
+            Field::Refused(refusal) => Err(Refused(refusal)),
+        })
+    }
+}
 
 impl<E: fmt::Display> fmt::Display for Answer<E> {
     fn fmt<W: fmt::Write>(&self, f: &mut fmt::Formatter<W>) -> fmt::Result {
@@ -45,27 +62,24 @@ impl<E: fmt::Display> fmt::Display for Answer<E> {
     }
 }
 
-fn print_field<P: Print>(rt: &P, field: Field) -> std::io::Result<()> {
-    rt.println(Answer(field.map_err(Refused)))
-}
-
 // The commands that ask something of a text, or of the record's first bytes.
 fn ask<P: Print>(rt: &P, op: u8, mut numbers: Numbers<'_>, held: &[u8]) -> std::io::Result<()> {
     let first = numbers.number();
-    let at = first as usize;
     if op == b'd' {
         let written = decimal::read(numbers.text(), form_of(first));
-        return rt.println(Answer(written.map_err(|_| "BAD")));
+        return rt.println(Answer::from(written));
     }
+    let at = first as usize;
     let second = numbers.number();
+    let bytes = part(held, 0, second);
     match op {
-        b'f' => print_field(rt, fields::listed_field(part(held, 0, second), first)),
+        b'f' => rt.println(Answer::from(fields::listed_field(bytes, first))),
         b'a' => {
             let bytes = part(held, 0, numbers.number());
-            print_field(rt, fields::field_at(bytes, at, form_of(second)))
+            rt.println(Answer::from(fields::field_at(bytes, at, form_of(second))))
         }
-        b'2' => println!(rt; "NUMBER {}", words::two(part(held, 0, second), at)),
-        b'4' => println!(rt; "NUMBER {}", words::four(part(held, 0, second), at)),
+        b'2' => println!(rt; "NUMBER {}", words::two(bytes, at)),
+        b'4' => println!(rt; "NUMBER {}", words::four(bytes, at)),
         _ => Ok(()),
     }
 }

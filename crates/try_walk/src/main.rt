@@ -23,6 +23,7 @@ use walk::{State, Walked};
 const HELD: usize = 65536;
 
 // Why a walk stopped, as it is printed.
+#[derive(Drop)]
 struct Stopped(Stop);
 
 impl fmt::Display for Stopped {

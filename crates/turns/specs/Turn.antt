@@ -58,7 +58,7 @@ plan_behind t kind p run r = plan_in t (eqb run 0) (plan_of kind r) p
 unfoldable pub judged_of : ℕ → Plan → ℕ → Due → List ℕ → Bool → Result Plan Stop
 judged_of kind p k d b closed = plan_behind (judge_of kind p k d b closed) kind p d.run (take d.length b)
 
--- step 7 as the code goes about it: what was found in the body
-abbrev pub passed_of : Result Plan Refusal → Due → Result Plan Stop
-passed_of (Ok q) d = Ok q
+-- steps 5 and 7 as the code goes about them: what was found in the record, its fault as the stop
+abbrev pub passed_of : {A : Type 0} → Result A Refusal → Due → Result A Stop
+passed_of (Ok a) d = Ok a
 passed_of (Err x) d = Err (refused_at d.ordinal d.start x.number x.place)

@@ -56,13 +56,13 @@ fn short(ordinal: u64, start: u64, closed: bool, missing: u64) -> Stop
     Stop::Wait(missing)
 }
 
-// Step 7: what was found in the body, which is the plan behind a record that passes.
-fn passed(found: Result<Plan, Refusal>, d: Due) -> Result<Plan, Stop>
+// What was found in the record that is due, its fault as the refusal that stops the walk.
+fn passed<T>(found: Result<T, Refusal>, d: Due) -> Result<T, Stop>
     requires { Placed d × Near found }
     ensures { result ≡ passed_of found d }
 {
     match found {
-        Ok(plan) => Ok(plan),
+        Ok(x) => Ok(x),
         Err(x) => Err(refused(d.ordinal, d.start, x.number, x.place)),
     }
 }
@@ -82,9 +82,7 @@ pub fn judge(kind: u64, p: Plan, k: u64, d: Due, b: &[u8], closed: bool) -> Resu
     if len < 12 {
         return Err(short(d.ordinal, d.start, closed, 12 - len));
     }
-    if let Err(x) = headers::header(d.ordinal, d.codes, d.length, b) {
-        return Err(refused(d.ordinal, d.start, x.number, x.place));
-    }
+    passed(headers::header(d.ordinal, d.codes, d.length, b), d)?;
     if len < d.length {
         return Err(short(d.ordinal, d.start, closed, d.length - len));
     }

@@ -32,6 +32,7 @@ pub fn text(r: &[u8], byte: usize, t: &[u8]) -> bool
 }
 
 // A fixed text: 8 at its first byte.
+#[tactic(auto, unfolding(crate::specs::Tests::first_fault))]
 pub fn fixed(r: &[u8], byte: usize, t: &[u8]) -> Verdict
     requires { byte + length t.now < 1000 }
     ensures { result ≡ first_fault (text_test r.now byte t.now ∷ []) }
@@ -53,20 +54,14 @@ pub fn first_text(r: &[u8]) -> Verdict
 fn whole_in(lo: u64, v: i64, hi: u64) -> bool
     ensures { result ≡ whole_in lo v hi }
 {
-    if v < 0 {
-        return false;
-    }
-    words::within(lo, v as u64, hi)
+    v >= 0 && words::within(lo, v as u64, hi)
 }
 
 // The number that a value says; 0 where it is negative, which no range allows.
 pub fn whole(v: i64) -> u64
     ensures { result ≡ whole_of v }
 {
-    if v < 0 {
-        return 0;
-    }
-    v as u64
+    u64::try_from(v).unwrap_or(0)
 }
 
 // The verdict on a field: its refusal is the fault. A listed field is a value or blank, so this is all
@@ -104,13 +99,16 @@ pub fn number(r: &[u8], byte: usize, form: Form, least: u64, most: u64) -> Resul
     ensures { result ≡ needed_of (at r.now byte form) (place_of byte) (last_of byte form) least most }
 {
     let first = words::place(byte);
-    let f = field(r, byte, form);
-    // docs/RULES.md, "Forms for each place": the value is taken, or the refusal handed up
-    let Field::Value(units, exponent) = f else {
-        fault(f)?;
-        return Err(words::at_place(6, (first + (decimal::width(form) - 1)) as u64));
-    };
-    in_range(Number { units, exponent }, first as u64, least, most)
+    match field(r, byte, form) {
+        Field::Value(units, exponent) => in_range(
+            Number { units, exponent },
+            first as u64,
+            least,
+            most,
+        ),
+        Field::Blank => Err(words::at_place(6, (first + (decimal::width(form) - 1)) as u64)),
+        Field::Refused(x) => Err(x),
+    }
 }
 
 // The count of six columns at document 01's byte: the number, or the refusal. It may be blank, and is 0
@@ -118,19 +116,13 @@ pub fn number(r: &[u8], byte: usize, form: Form, least: u64, most: u64) -> Resul
 pub fn count(r: &[u8], byte: usize, least: u64, most: u64) -> Result<Number, Refusal>
     ensures { result ≡ counted_of (at r.now byte I6) (place_of byte) least most }
 {
-    let place = words::place(byte) as u64;
-    let f = field(r, byte, Form::I6);
-    let Field::Value(units, exponent) = f else {
-        fault(f)?;
-        return in_range(
-            Number {
-                units: 0,
-                exponent: 0,
-            },
-            place,
-            least,
-            most,
-        );
+    let said = match field(r, byte, Form::I6) {
+        Field::Value(units, exponent) => Number { units, exponent },
+        Field::Blank => Number {
+            units: 0,
+            exponent: 0,
+        },
+        Field::Refused(x) => return Err(x),
     };
-    in_range(Number { units, exponent }, place, least, most)
+    in_range(said, words::place(byte) as u64, least, most)
 }

@@ -24,16 +24,18 @@ pub fn descriptor(r: &[u8]) -> Result<u64, Refusal>
 }
 
 // The class of pointer k of m: `SARL` first, `SART` last, `IMOP` between.
+#[tactic(auto, unfolding(crate::specs::Volume::class_text))]
 fn class(m: u64, k: u64, r: &[u8]) -> Verdict
     ensures { result ≡ first_fault (text_test r.now 65 (class_text m k) ∷ []) }
 {
-    if k == 1 {
-        return verdicts::fixed(r, 65, b"SARL");
-    }
-    if k == m {
-        return verdicts::fixed(r, 65, b"SART");
-    }
-    verdicts::fixed(r, 65, b"IMOP")
+    let text = if k == 1 {
+        b"SARL"
+    } else if k == m {
+        b"SART"
+    } else {
+        b"IMOP"
+    };
+    verdicts::fixed(r, 65, text)
 }
 
 // Pointer k of m: its class, its record count, and its first record length, exactly 720.
@@ -48,6 +50,7 @@ fn pointer(m: u64, k: u64, r: &[u8]) -> Verdict
 
 // Record k behind the descriptor of a directory with m pointers: a pointer, or the text record, whose
 // bytes are free.
+#[tactic(auto, unfolding(crate::specs::Volume::volume_record, verdicts::specs::Tests::first_fault))]
 pub fn record(run: u64, m: u64, k: u64, r: &[u8]) -> Verdict
     requires { run ≡ 0 → ⊥ }
     ensures { result ≡ first_fault (volume_record run m k r.now) }

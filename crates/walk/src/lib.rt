@@ -143,7 +143,8 @@ impl State {
             let rest = &bytes[at..];
             let p = st.plan;
             let due = plan::due_of(st.kind, p, st.passed);
-            match turns::judge(st.kind, p, st.passed, due, rest, closed) {
+            let behind = match turns::judge(st.kind, p, st.passed, due, rest, closed) {
+                Ok(plan) => plan,
                 Err(stop) => {
                     return Walked {
                         state: st,
@@ -151,9 +152,9 @@ impl State {
                         stop,
                     };
                 }
-                Ok(behind) => st = st.next(behind),
-            }
+            };
             at += due.length as usize;
+            st = st.next(behind);
             n += 1;
             let long = st.plan.l;
             let c = st.ahead(&bytes[at..], budget - n);

@@ -49,6 +49,7 @@ pub fn byte(b: &[u8], at: usize) -> u64
 }
 
 // The two bytes from a place on as one number, high byte first: 02 01 is 513 (P11).
+#[tactic(auto, unfolding(crate::specs::Words::two_at))]
 pub fn two(b: &[u8], at: usize) -> u64
     ensures value { result ≡ two_at b.now at }
     ensures upper_bound { result < 2 ^ 16 }
@@ -62,17 +63,17 @@ pub fn two(b: &[u8], at: usize) -> u64
 }
 
 // Four bytes that have all come: who reads many of them tests once, and not at each.
+#[tactic(auto, unfolding(crate::specs::Words::two_at, crate::specs::Words::four_at))]
 pub fn four_there(b: &[u8], at: usize) -> u64
     requires { at + 4 ≤ length b.now }
     ensures value { result ≡ four_at b.now at }
     ensures upper_bound { result < 2 ^ 32 }
 {
-    let front = b[at] as u64 * 256 + b[at + 1] as u64;
-    let back = b[at + 2] as u64 * 256 + b[at + 3] as u64;
-    front * 65536 + back
+    u64::from(u32::from_be_bytes([b[at], b[at + 1], b[at + 2], b[at + 3]]))
 }
 
 // The four bytes from a place on, some of which have not come.
+#[tactic(auto, unfolding(crate::specs::Words::two_at, crate::specs::Words::four_at))]
 fn four_short(b: &[u8], at: usize) -> u64
     ensures value { result ≡ four_at b.now at }
     ensures upper_bound { result < 2 ^ 32 }
@@ -91,30 +92,26 @@ pub fn four(b: &[u8], at: usize) -> u64
     ensures upper_bound { result < 2 ^ 32 }
 {
     let len = b.len();
-    if 4 <= len {
-        if at <= len - 4 {
-            return four_there(b, at);
-        }
+    if 4 <= len && at <= len - 4 {
+        return four_there(b, at);
     }
     four_short(b, at)
 }
 
 // Document 01 counts bytes from 1, places from 0: this is the one crossing between the two.
 // Byte 0 does not exist; it is taken for byte 1.
+#[tactic(auto, unfolding(crate::specs::Words::place_of))]
 pub fn place(byte: usize) -> usize
     ensures { result ≡ place_of byte }
 {
-    if byte == 0 {
-        return 0;
-    }
-    byte - 1
+    byte.saturating_sub(1)
 }
 
 // Both tests hold.
 pub fn both(a: bool, b: bool) -> bool
     ensures { result ≡ both_of a b }
 {
-    if a { b } else { false }
+    a && b
 }
 
 // Two numbers are the same.
@@ -128,5 +125,5 @@ pub fn is(x: u64, y: u64) -> bool
 pub fn within(lo: u64, x: u64, hi: u64) -> bool
     ensures { result ≡ within_of lo x hi }
 {
-    both(lo <= x, x <= hi)
+    lo <= x && x <= hi
 }

@@ -12,12 +12,9 @@ pub fn text(out: &mut [u8], at: usize, text: &[u8]) -> usize
     ensures out_after { out.new ≡ written out.old at text.now }
     ensures value { result ≡ at + length text.now }
 {
-    let mut i = 0;
-    while i < text.len() {
-        out[at + i] = text[i];
-        i += 1;
-    }
-    at + i
+    let end = at + text.len();
+    out[at..end].copy_from_slice(text);
+    end
 }
 
 // A number's digits, with no 0 in front; their end. There are at most 20.
@@ -36,14 +33,5 @@ pub fn four(out: &mut [u8], at: usize, n: u64)
     requires { at + 4 ≤ length out.old }
     ensures { out.new ≡ written out.old at (four_of n) }
 {
-    text(
-        out,
-        at,
-        &[
-            (n / 256 / 256 / 256 % 256) as u8,
-            (n / 256 / 256 % 256) as u8,
-            (n / 256 % 256) as u8,
-            (n % 256) as u8,
-        ],
-    );
+    text(out, at, &n.to_be_bytes()[4..]);
 }

@@ -12,8 +12,8 @@ returns-then-b-l c = laws.not_whole _ _ _ _ c.args.b.now c.if-b-l.true
 pub returns-then-l-lt32 : goal.returns-then-l-lt32
 returns-then-l-lt32 c = laws.no_room _ _ _ _ c.args.b.now c.if-b-l.false c.if-l-lt32.true
 
-pub slice_bounds-r-end : goal.slice_bounds-r-end
-slice_bounds-r-end c = sym (length-take-le _ c.args.b.now (omega (arith, c.if-b-l.false)))
+pub slice_bounds-line_there-end : goal.slice_bounds-line_there-end
+slice_bounds-line_there-end c = sym (length-take-le _ c.args.b.now (omega (arith, c.if-b-l.false)))
 
 pub line_there-requires : goal.line_there-requires
 line_there-requires c = omega (

@@ -3,7 +3,7 @@ use mathlib.Core.Path.{sym, ap, ◌∙◌, subst}
 use Rattle.decimal.specs.Grammar.{Means}
 use Rattle.decimal.specs.Scan.{decimal_of}
 use Rattle.decimal.proofs.Laws as laws
-use Rattle.decimal.proofs.Answer.{says, fits_length}
+use Rattle.decimal.proofs.Answer.{says}
 use Rattle.decimal.proofs.read.Goals as goal
 
 pub returns-then-f-width : goal.returns-then-f-width
@@ -15,11 +15,6 @@ returns-then-f-width c =
           (says c.args.form c.args.f.now);
       value = sym q;
     }
-
-pub shaped-requires : goal.shaped-requires
-shaped-requires c = rw c.shape_of.ensures
-    (fits_length c.args.form c.args.f.now (c.if-f-width.false
-    ∙ c.width.ensures))
 
 pub returns : goal.returns
 returns c =

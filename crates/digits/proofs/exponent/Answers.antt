@@ -1,5 +1,5 @@
 -- An exponent's four bytes are tested from the left: each return is the definition's branch.
-use Prim.Native.Nat.{◌+◌, ◌-◌}
+use Prim.Native.Nat.{◌+◌}
 use mathlib.Core.Path.{ap, ◌∙◌}
 use mathlib.Core.Bool.{true, false}
 use native.Mathlib.Omega.{arith}
@@ -14,14 +14,6 @@ returns-then-f-at-ne69 c =
     let args = c.args in
     record { is = rw (laws.exp_is args.f.now args.at c.requires, ne_eqb _ _ c.if-f-at-ne69.true); small = tt }
 
-pub run-requires : goal.run-requires
-run-requires c =
-    let args = c.args in
-    record {
-      at_le_end = omega (arith, c.requires, laws.none_yet (args.at + 2 + 18 - (args.at + 4)));
-      end_bound = omega (arith, c.requires, laws.none_yet (args.at + 2 + 18 - (args.at + 4)));
-    }
-
 pub returns-then-c-eq45 : goal.returns-then-c-eq45
 returns-then-c-eq45 c =
     let args = c.args in
@@ -30,14 +22,6 @@ returns-then-c-eq45 c =
     laws.made true (digits_of 0 (slice (args.at + 2) (args.at + 4) f)) (c.with_sign.ensures ∙ ap (with_sign true) c.run.ensures)
     (laws.few f (args.at + 2) (args.at + 4) 0 0 18 (omega (arith, pre)) (laws.none_yet 0) (omega arith))
     (rw (laws.exp_is f args.at pre, eq-eqb _ 69 c.if-f-at-ne69.false, eq-eqb _ 45 c.if-c-eq45.true))
-
-pub run-requires-then-c-eq43 : goal.run-requires-then-c-eq43
-run-requires-then-c-eq43 c =
-    let args = c.args in
-    record {
-      at_le_end = omega (arith, c.requires, laws.none_yet (args.at + 2 + 18 - (args.at + 4)));
-      end_bound = omega (arith, c.requires, laws.none_yet (args.at + 2 + 18 - (args.at + 4)));
-    }
 
 pub returns-then-c-eq43 : goal.returns-then-c-eq43
 returns-then-c-eq43 c =

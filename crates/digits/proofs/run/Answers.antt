@@ -19,11 +19,6 @@ loop-c-init c =
       same = ap (digits_of args.acc) (take-length _ ∙ laws.part args.f.now args.at args.end pre.at_le_end.0);
     }
 
-pub returns-then-c-lt48 : goal.returns-then-c-lt48
-returns-then-c-lt48 c =
-    let l = c.loop-c in
-    sym (laws.run_off _ _ _ c.loop-c-test.true (omega arith) _ c.then-c-lt48.either) ∙ l.invariant.same
-
 pub overflow_mul-n : goal.overflow_mul-n
 overflow_mul-n c =
     let l = c.loop-c in
@@ -41,6 +36,3 @@ loop-c-preserved c =
       fits = laws.grows_to _ _ _ _ (omega (arith, l.invariant.few)) l.invariant.fits c.if-c-gt57.false;
       same = sym (laws.run_more _ _ _ c.loop-c-test.true (omega arith) _ c.if-c-lt48.false c.if-c-gt57.false) ∙ l.invariant.same;
     }
-
-pub returns : goal.returns
-returns c = sym (laws.run_done _ _ _ (omega arith) c.loop-c-test.false _) ∙ c.loop-c.invariant.same

@@ -16,27 +16,16 @@ returns-then-from-n c =
     let pre = c.requires in
     record { is = sym (whole.sign_alone args.f.now args.k pre.skipped pre.k_in_bounds.0 (sym c.behind-from.ensures ∙ c.if-from-n.true)); small = tt }
 
-pub run-requires : goal.run-requires
-run-requires c =
+pub run-requires-clause-end_bound : goal.run-requires-clause-end_bound
+run-requires-clause-end_bound c =
     let args = c.args in
-    record {
-      at_le_end = omega (
-        arith,
-        laws.one_byte (get_or args.f.now args.k 0),
-        c.behind-from.ensures,
-        c.if-from-n.false,
-        laws.none_yet
-            (c.behind-from.result + 18 - length args.f.now),
-      );
-      end_bound = omega (
-        arith,
-        laws.one_byte (get_or args.f.now args.k 0),
-        c.behind-from.ensures,
-        c.if-from-n.false,
-        laws.none_yet
-            (c.behind-from.result + 18 - length args.f.now),
-      );
-    }
+    omega (
+      arith,
+      laws.one_byte (get_or args.f.now args.k 0),
+      c.behind-from.ensures,
+      c.if-from-n.false,
+      laws.none_yet (c.behind-from.result + 18 - length args.f.now),
+    )
 
 pub returns : goal.returns
 returns c =

@@ -4,7 +4,7 @@ use Rattle.plan.specs.Tables.{sort_of}
 use Rattle.plan.specs.declared.Sort.{Sort}
 use Rattle.lines.specs.declared.Shown.{Shown}
 use Rattle.lines.specs.declared.Sorted.{Sorted}
-use Rattle.lines.specs.View.{sorted_of}
+use Rattle.lines.specs.View.{sorted_of, pixels_of}
 use Rattle.lines.proofs.ViewLaws as views
 use Rattle.lines.proofs.InsideLaws as laws
 use Rattle.lines.proofs.pixels.Goals as goal
@@ -17,7 +17,8 @@ within bs k x sees s same y e =
     (laws.shown_within bs k y.start y.count y.left (sym (ap (λ (x : Sorted). x.view) sees) ∙ e))
 
 pub returns-in_default : goal.returns-in_default
-returns-in_default c = views.pixels_none c.args.bytes.now c.args.k _ (ap (λ (x : Sorted). x.view) c.sorted_view-x.ensures) _ c.in_default.is
+unfolding pixels_of
+returns-in_default c = search rules
 
 pub overflow_mul-to : goal.overflow_mul-to
 overflow_mul-to c =
@@ -31,9 +32,7 @@ pub slice_bounds-result-end-2 : goal.slice_bounds-result-end-2
 slice_bounds-result-end-2 c = within c.args.bytes.now c.args.k _ c.sorted_view-x.ensures _ c.sort_at-group.ensures _ c.in-Ok.is
 
 pub returns : goal.returns
+unfolding pixels_of
 returns c =
-    let args = c.args in
-    let view = c.sorted_view-x.ensures in
-    views.pixels_shown args.bytes.now args.k _ (ap (λ (x : Sorted). x.view) view)
-    _ (ap (λ (s : Sort). s.group) c.sort_at-group.ensures ∙ ap (λ (x : Sorted). (sort_of x.sort).group) view) _
-    c.in-Ok.is
+    let x = c.in-Ok.shown in
+    let part = views.part_is x.start (c.sort_at-group.result.group * x.count) c.args.bytes.now in search rules

@@ -1,5 +1,6 @@
 -- The numbers of the definition, each read where it stands.
 use Prim.Native.Nat.{ℕ, ◌+◌, ◌*◌, ◌≤◌}
+use borrow.Author.Rules.{rules}
 use mathlib.Core.Path.{◌≡◌, ap, ap₂, ◌∙◌}
 use native.Mathlib.Omega.{arith}
 use Rattle.words.specs.Words.{four_at, place_of}
@@ -39,14 +40,4 @@ overflow_add-result-2 c =
 
 pub returns : goal.returns
 unfolding shown_of
-returns c =
-    let args = c.args in
-    let r = args.r.now in
-    let left = c.four_there-left in
-    let count = c.four_there-count in
-    let from = c.pixels_from in
-    let l : left.result ≡ left_of r = left.ensures.value ∙ ap (λ (i : ℕ). four_at r i) c.place.ensures in
-    let d : count.result ≡ data_of r = count.ensures.value ∙ ap (λ (i : ℕ). four_at r i) c.place-2.ensures in
-    ap (λ (s : Sort). shown_view (args.start + from.result + s.group * left.result) count.result left.result) c.sort_at-group.ensures
-    ∙ ap₂ (λ (n a : ℕ). shown_view (args.start + n + group_of args.p * a) count.result a) from.ensures.0 l
-    ∙ ap (λ (b : ℕ). shown_view (args.start + pixels_from args.p + group_of args.p * left_of r) b (left_of r)) d
+returns c = search rules

@@ -1,6 +1,5 @@
 -- Each return is the definition's branch for that kind and run.
 use mathlib.Core.Path.{sym, ap, ◌∙◌}
-use Prim.Native.Nat.{◌+◌}
 use native.Mathlib.Omega.{arith}
 use Rattle.plan.specs.declared.Slot.{Slot}
 use Rattle.plan.proofs.CodeLaws as laws

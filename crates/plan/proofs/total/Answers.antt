@@ -1,14 +1,12 @@
 -- One for the first record and the sum of the runs, which is the library's.
 use Prim.Native.Nat.{ℕ, ◌+◌}
-use mathlib.Core.Path.{◌≡◌, sym, ap, ◌∙◌}
+use mathlib.Core.Path.{◌≡◌, ap, ◌∙◌}
 use native.Mathlib.Omega.{arith}
 use lib.ListN.{length}
 use borrow.Author.Rules.{rules}
-use Rattle.std.specs.Prelude.{sum}
 use Rattle.plan.specs.Tables.{rows}
-use Rattle.plan.specs.Plan.{total_of, run_counts}
 use Rattle.plan.proofs.Bounds.{total_small}
-use Rattle.plan.proofs.RunLaws.{sum_is, total_is}
+use Rattle.plan.proofs.RunLaws.{total_is}
 use Rattle.plan.proofs.total.Goals as goal
 
 pub sum-requires : goal.sum-requires

@@ -8,40 +8,27 @@ use Rattle.verdicts.proofs.TextLaws as laws
 use Rattle.verdicts.proofs.text.Goals as goal
 
 pub loop-i-init : goal.loop-i-init
-loop-i-init c = (
-  omega arith,
-  c.requires,
-  ap
-      (λ (a : ℕ). text_at c.args.r.now a c.args.t.now) (sym c.place-at.ensures)
-      ∙ laws.text_start c.args.r.now c.place-at.result c.args.t.now,
-)
+loop-i-init c =
+    ap (λ (a : ℕ). text_at c.args.r.now a c.args.t.now) (sym c.place-at.ensures)
+    ∙ laws.text_start c.args.r.now c.place-at.result c.args.t.now
 
 pub overflow_add-at : goal.overflow_add-at
 unfolding place_of
 overflow_add-at c = omega (arith, c.place-at.ensures)
 
-pub overflow_cast-t : goal.overflow_cast-t
-overflow_cast-t c = omega (arith, c.type_inv.t c.loop-i.i)
-
 pub returns-then-byte-t : goal.returns-then-byte-t
 returns-then-byte-t c =
-    let args = c.args in
-    sym (c.loop-i.invariant.2
-    ∙ laws.text_off args.r.now c.place-at.result args.t.now
-    c.loop-i.i c.loop-i-test.true (λ e. c.if-byte-t.true (c.byte.ensures.value
-    ∙ e)))
+    sym (c.loop-i.invariant
+    ∙ laws.text_off c.args.r.now c.place-at.result c.args.t.now
+    c.loop-i.i c.loop-i-test.true (λ e. c.if-byte-t.true (c.byte.ensures.value ∙ e)))
 
 pub loop-i-preserved : goal.loop-i-preserved
 loop-i-preserved c =
-    let args = c.args in (
-      omega arith,
-      c.loop-i.invariant.1,
-      c.loop-i.invariant.2
-          ∙ laws.text_next args.r.now c.place-at.result args.t.now
-          c.loop-i.i c.loop-i-test.true (sym c.byte.ensures.value ∙ c.if-byte-t.false),
-    )
+    c.loop-i.invariant
+    ∙ laws.text_next c.args.r.now c.place-at.result c.args.t.now
+    c.loop-i.i c.loop-i-test.true (sym c.byte.ensures.value ∙ c.if-byte-t.false)
 
 pub returns : goal.returns
-returns c = sym (c.loop-i.invariant.2
+returns c = sym (c.loop-i.invariant
     ∙ laws.text_end c.args.r.now c.place-at.result
     c.args.t.now c.loop-i.i c.loop-i-test.false)
