@@ -45,15 +45,10 @@ fn found(p: Plan, k: u64, d: Due, r: &[u8]) -> Verdict
     requires { (d.run ≡ 1) × (32 ≤ length r.now) }
     ensures { result ≡ found_in p k d r.now }
 {
-    let codes = d.codes;
-    let fine = words::both(
-        headers::header_there(d.ordinal, codes, d.length, r),
-        image::line_there(p.w, k, r),
-    );
-    if fine {
+    if headers::header_there(d.ordinal, d.codes, d.length, r) && image::line_there(p.w, k, r) {
         return Ok(());
     }
-    headers::header(d.ordinal, codes, d.length, r)?;
+    headers::header(d.ordinal, d.codes, d.length, r)?;
     image::line(p.w, k, r)
 }
 
@@ -93,9 +88,7 @@ fn line_at(p: Plan, k: u64, d: Due, bytes: &[u8]) -> View
     if len < end {
         return Err(Unshown::Wait(end - len));
     }
-    let from = d.start as usize;
-    let to = end as usize;
-    let r = &bytes[from..to];
+    let r = &bytes[d.start as usize..end as usize];
     if let Err(x) = found(p, k, d, r) {
         return Err(Unshown::Refused(Refusal {
             number: x.number,
@@ -112,14 +105,12 @@ fn line_due(p: Plan, k: u64) -> Due
     ensures value { result ≡ due_of image p k }
     ensures placed { Placed result × (result.run ≡ 1) × (32 ≤ result.length) }
 {
-    let codes = plan::line_codes(p.sort);
-    let before = (k - 1) * p.l;
     Due {
         ordinal: k + 1,
         run: 1,
-        codes,
+        codes: plan::line_codes(p.sort),
         length: p.l,
-        start: plan::first_length(plan::IMAGE) + before,
+        start: plan::first_length(plan::IMAGE) + (k - 1) * p.l,
     }
 }
 

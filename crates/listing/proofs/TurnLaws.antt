@@ -6,12 +6,12 @@ use native.Mathlib.Omega.{arith}
 use mathlib.Core.Bool.{Bool, true, false}
 use lib.Dec.{ltb}
 use borrow.Author.Tests.{eq-eqb, ne_eqb}
+use Rattle.std.specs.Prelude.{Ok}
 use Rattle.words.specs.Tests.{pick}
 use Rattle.words.specs.Words.{four_at, place_of}
 use Rattle.walk.specs.State.{fresh}
 use Rattle.walk.specs.Walk.{walk_of, begin_of}
 use Rattle.plan.specs.Plan.{image}
-use Rattle.walk.specs.declared.Begun.{Begun}
 use Rattle.walk.proofs.BegunLaws.{begun_walks}
 use Rattle.walk.proofs.GoodLaws.{fresh_good}
 use Rattle.walk.proofs.LoopLaws.{walk_pause}
@@ -64,6 +64,6 @@ module _ (st : State) (held : List ℕ) (closed : Bool) where
         ap (λ (s : Say). record { state = w.state; say = s }) (q ∙ ap (say_of st held w.state) (sym e)) ∙ sym told_is
 
 -- a budget of 0 passes nothing
-pub begun_fresh : (b : Begun) (w : Walked) → b ≡ begin_of image → w ≡ walk_of 0 b.state [] false → w.state ≡ fresh image
-begun_fresh b w e q =
-    ap (λ (x : Walked). x.state) (begun_walks image 0 [] false refl b w e q ∙ walk_pause (fresh image) [] false (fresh_good image (omega arith) (omega arith)))
+pub begun_walked : (st : State) (w : Walked) → Ok st ≡ begin_of image → w ≡ walk_of 0 st [] false → w.state ≡ fresh image
+begun_walked st w e q =
+    ap (λ (x : Walked). x.state) (begun_walks image 0 [] false refl st w e q ∙ walk_pause (fresh image) [] false (fresh_good image (omega arith) (omega arith)))

@@ -112,12 +112,12 @@ pub fn power_in(bytes: &[u8], v: View, sort: u64, index: u64) -> Powered
     if !is_complex(sort) {
         return Err(Unshown::Refused(words::bare(23)));
     }
-    if index < shown.count {
-        let at = place_of(bytes.len() as u64, shown.start, sort, index);
-        let p = patterns_there(bytes, at as usize);
-        return floats::power_of(p.re, p.im).ok_or(Unshown::Refused(words::bare(24)));
+    if index >= shown.count {
+        return Err(Unshown::Refused(words::bare(36)));
     }
-    Err(Unshown::Refused(words::bare(36)))
+    let at = place_of(bytes.len() as u64, shown.start, sort, index);
+    let p = patterns_there(bytes, at as usize);
+    floats::power_of(p.re, p.im).ok_or(Unshown::Refused(words::bare(24)))
 }
 
 // Sample `index`, from 0, of line k of an image prefix held from byte 0, bits kept: the line's own wait or

@@ -8,8 +8,8 @@ use Rattle.lines.specs.View.{found_in}
 use Rattle.lines.proofs.FoundLaws as found
 use Rattle.lines.proofs.found.Goals as goal
 
-pub returns-then-fine : goal.returns-then-fine
-returns-then-fine c =
+pub returns-then-line_there : goal.returns-then-line_there
+returns-then-line_there c =
     let args = c.args in
     let head = all_hold (header_tests args.d.ordinal args.d.codes args.d.length args.r.now) in
     let both : both_of head (all_hold (line_tests args.p.w args.k args.r.now)) ≡ true = search rules in
