@@ -4,11 +4,8 @@ use mathlib.Core.Path.{◌≡◌, refl, sym, ap, ◌∙◌}
 use mathlib.Core.List.{List, []}
 use native.Mathlib.Omega.{arith}
 use mathlib.Core.Bool.{Bool, true, false}
-use lib.Dec.{ltb}
-use borrow.Author.Tests.{eq-eqb, ne_eqb}
 use Rattle.std.specs.Prelude.{Ok}
 use Rattle.words.specs.Tests.{pick}
-use Rattle.words.specs.Words.{four_at, place_of}
 use Rattle.walk.specs.State.{fresh}
 use Rattle.walk.specs.Walk.{walk_of, begin_of}
 use Rattle.plan.specs.Plan.{image}
@@ -18,35 +15,10 @@ use Rattle.walk.proofs.LoopLaws.{walk_pause}
 use Rattle.walk.specs.declared.State.{State}
 use Rattle.turns.specs.declared.Stop.{Stop}
 use Rattle.walk.specs.declared.Walked.{Walked}
-use Rattle.listing.specs.Rows.{longest, passed_row, wanted, say_of, too_long, told_by, told_of}
-use Rattle.rows.specs.declared.Row.TheVariants.{Image, Line, TooLong}
+use Rattle.listing.specs.Rows.{say_of, too_long, told_by, told_of}
+use Rattle.rows.specs.declared.Row.TheVariants.{TooLong}
 use Rattle.listing.specs.declared.Say.{Say}
 use Rattle.listing.specs.declared.Say.TheVariants.{Last}
-
-pub row_first : (st after : State) (r : List ℕ) → st.passed ≡ 0 → passed_row st r after ≡ Image after.plan.n after.plan.w
-unfolding passed_row
-row_first st after r e = simp (eq-eqb st.passed 0 e)
-
-pub row_line : (st after : State) (r : List ℕ) → (st.passed ≡ 0 → ⊥)
-    → passed_row st r after ≡ Line st.passed (four_at r (place_of 21)) (four_at r (place_of 25)) (four_at r (place_of 29))
-unfolding passed_row
-row_line st after r n = simp (ne_eqb st.passed 0 n)
-
-pub want_one : (n : ℕ) → n ≡ 0 → 1 ≡ wanted n
-unfolding wanted
-want_one n e = sym (simp (eq-eqb n 0 e))
-
-pub want_more : (n : ℕ) → (n ≡ 0 → ⊥) → n ≡ wanted n
-unfolding wanted
-want_more n h = sym (simp (ne_eqb n 0 h))
-
-pub long_first : (st : State) → st.passed ≡ 0 → false ≡ too_long st
-unfolding too_long
-long_first st e = sym (simp (eq-eqb st.passed 0 e))
-
-pub long_later : (st : State) → (st.passed ≡ 0 → ⊥) → ltb longest st.plan.l ≡ too_long st
-unfolding too_long
-long_later st n = sym (simp (ne_eqb st.passed 0 n))
 
 module _ (st : State) (held : List ℕ) (closed : Bool) where
   pub told_long : too_long st ≡ true → record { state = st; say = Last TooLong } ≡ told_of st held closed

@@ -41,6 +41,7 @@ pub fn begin() -> State
 }
 
 // The row of a record that has passed: the first, or a line.
+#[tactic(auto, unfolding(crate::specs::Rows::passed_row))]
 fn passed_row(st: State, r: &[u8], after: State) -> Row
     ensures { result ≡ passed_row st r.now after }
 {
@@ -52,6 +53,7 @@ fn passed_row(st: State, r: &[u8], after: State) -> Row
 }
 
 // Behind the last record one byte is asked for, to see whether more come.
+#[tactic(auto, unfolding(crate::specs::Rows::wanted))]
 fn want(n: u64) -> u64
     ensures { result ≡ wanted n }
 {
@@ -59,6 +61,7 @@ fn want(n: u64) -> u64
 }
 
 // Behind the first record: no line of this image can be held.
+#[tactic(auto, unfolding(crate::specs::Rows::too_long))]
 fn too_long(st: State) -> bool
     ensures { result ≡ too_long st }
 {
