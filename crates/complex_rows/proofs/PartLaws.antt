@@ -32,7 +32,8 @@ four_of bs at (suc n) (suc i) h =
     four_of bs (at + 4) n i (omega arith) ∙ ap (λ (k : ℕ). four_at bs k) (let e : at + 4 + 4 * i ≡ at + 4 * suc i = omega arith in e)
 
 -- numbers each of which is that number are the numbers
-pub fours_are : (n : ℕ) (bs : List ℕ) (at : ℕ) (row : List ℕ) → length row ≡ n → ((k : ℕ) → k < n → get_or row k 0 ≡ four_at bs (at + 4 * k)) → row ≡ fours bs at n
+pub fours_are : (n : ℕ) (bs : List ℕ) (at : ℕ) (row : List ℕ) → length row ≡ n → ((k : ℕ) → k < n → get_or row k 0 ≡ four_at bs (at + 4 * k))
+    → row ≡ fours bs at n
 fours_are n bs at row long each =
     ext_get_or 0 row (fours bs at n) (long ∙ sym (length_fours bs at n))
     (λ i h. let below : i < n = omega arith in each i below ∙ sym (four_of bs at n i below))

@@ -21,8 +21,8 @@ use Rattle.turns.specs.Turn.{Near}
 use Rattle.turns.specs.declared.Stop.{Stop}
 use Rattle.turns.specs.declared.Stop.TheVariants.{Wait as Wait', Pause, Complete, Refused as Refused'}
 use Rattle.turns.proofs.FaultLaws.{header_near, body_near}
-use Rattle.lines.specs.View.{View, shown_view, left_of, data_of, pixels_from, shown_of, on_verdict, found_in, record_at, line_at, line_of, behind_first, first_of, view_of}
-use Rattle.lines.specs.View.{sort_seen, shown_bytes, pixels_of}
+use Rattle.lines.specs.View.{View, shown_view, left_of, data_of, pixels_from, shown_of, on_verdict, found_in, record_at, line_at}
+use Rattle.lines.specs.View.{line_of, behind_first, first_of, view_of, sort_seen, shown_bytes, pixels_of}
 use Rattle.lines.specs.declared.Shown.{Shown}
 use Rattle.lines.specs.declared.Unshown.{Unshown}
 use Rattle.lines.specs.declared.Unshown.TheVariants.{Wait, Refused}

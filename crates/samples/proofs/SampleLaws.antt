@@ -54,8 +54,8 @@ module _ (v : View) (sort : ℕ) (bs : List ℕ) (i : ℕ) where
     pub power_outside : is_complex sort ≡ true → y.count ≤ i → Err (Refused (bare_refusal 36)) ≡ powered_by v sort bs i
     power_outside k h = sym (ap (λ (x : View). powered_by x sort bs i) e ∙ simp (k, le-ltb _ _ h))
 
-    pub power_there : is_complex sort ≡ true → i < y.count → (at : ℕ) → at ≡ clipped (length bs) (place_in y.start sort i) → (p : Pattern) → p ≡ pattern_at bs at
-        → on_power (power_of p.re p.im) ≡ powered_by v sort bs i
+    pub power_there : is_complex sort ≡ true → i < y.count → (at : ℕ) → at ≡ clipped (length bs) (place_in y.start sort i) → (p : Pattern)
+        → p ≡ pattern_at bs at → on_power (power_of p.re p.im) ≡ powered_by v sort bs i
     power_there k h at q p is =
         ap (λ (x : Pattern). on_power (power_of x.re x.im))
         (is ∙ ap (λ (a : ℕ). pattern_at bs a) q ∙ pattern_clipped bs (place_in y.start sort i))
