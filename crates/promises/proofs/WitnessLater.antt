@@ -13,7 +13,6 @@ use Rattle.words.specs.Tests.{pick, both_of, within_of}
 use Rattle.words.specs.Words.{place_of, two_at, four_at}
 use Rattle.words.proofs.Laws.{both_l, both_r, within_true}
 use Rattle.words.proofs.Table.{every_at}
-use Rattle.decimal.specs.Text.{bytes}
 use Rattle.digits.specs.Segments.{mantissa_of}
 use Rattle.decimal.specs.Scan.{number_in, decimal_of, written}
 use Rattle.fields.specs.Field.{field_at}

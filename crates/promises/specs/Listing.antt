@@ -1,6 +1,6 @@
 -- The listing in whatever pieces its input comes: what the program does, turn by turn, with the bytes held of the next record and the bytes still to
 -- come. Assumes nothing.
-use Rattle.std.specs.Prelude.{ℕ, zero, suc, ◌+◌, ◌≤◌, ◌≡◌, true, false, List, [], ◌∷◌, ◌++◌, length, take, drop, Ok, Err}
+use Rattle.std.specs.Prelude.{ℕ, zero, suc, ◌≤◌, ◌≡◌, true, false, List, [], ◌∷◌, ◌++◌, length, take, drop, Ok, Err}
 use Rattle.words.specs.Tests.{pick}
 use Rattle.walk.specs.State.{start_of, next_due}
 use Rattle.walk.specs.Walk.{turn_of, next_of}

@@ -1,18 +1,17 @@
 -- A sample by what the view shows, one test at a time; and the bits that its floats keep.
-use Prim.Native.Nat.{ℕ, ◌+◌, ◌*◌, ◌≤◌, ◌<◌}
+use Prim.Native.Nat.{ℕ, ◌+◌, ◌≤◌, ◌<◌}
 use mathlib.Core.Path.{◌≡◌, refl, sym, ap, ◌∙◌}
 use mathlib.Core.List.{List}
 use mathlib.Core.Bool.{Bool, true, false, not, false≢true}
 use native.Mathlib.Omega.{arith}
 use lib.Dec.{T, ltb}
 use lib.ListN.{length}
-use lib.Ieee.{binary32, nan_bits, to_bits}
+use lib.Ieee.{binary32, nan_bits}
 use borrow.Author.Tests.{lt-ltb, le-ltb}
 use Rattle.words.specs.Tests.{pick}
 use Rattle.words.specs.Words.{byte_at, two_at, four_at}
 use Rattle.words.specs.Answer.{bare_refusal}
-use Rattle.words.specs.declared.Refusal.{Refusal}
-use Rattle.floats.specs.Floats.{float_of, power_of}
+use Rattle.floats.specs.Floats.{power_of}
 use Rattle.words.proofs.Laws.{both_l, both_r}
 use Rattle.floats.proofs.Laws.{bits_kept}
 use Rattle.std.specs.Prelude.{Ok, Err}
@@ -23,7 +22,7 @@ use Rattle.lines.specs.declared.Unshown.TheVariants.{Refused}
 use Rattle.samples.specs.declared.Sample.{Sample}
 use Rattle.samples.specs.declared.Sample.TheVariants.{Count, Complex}
 use Rattle.samples.specs.declared.Pattern.{Pattern}
-use Rattle.samples.specs.Samples.{Patterned, is_complex, group_of, clipped, place_in, pattern_at, stands_at, patterned_by, floats, floated, sampled_by}
+use Rattle.samples.specs.Samples.{Patterned, is_complex, clipped, place_in, pattern_at, stands_at, patterned_by, floats, floated, sampled_by}
 use Rattle.samples.specs.Samples.{on_power, powered_by, bits_of, no_nan}
 use Rattle.samples.specs.Said.{patterned_as, sampled_as}
 use Rattle.samples.proofs.PlaceLaws.{pattern_clipped, stands_clipped}
