@@ -13,6 +13,7 @@ use words::Refusal;
 pub const NUMBERS: usize = 5;
 
 // An answer as C gets it: which one it is, its numbers, and how many records a walk passed.
+// kept: the tag is a number since include/seobangyu.h names the tags by number.
 #[derive(Clone, Copy)]
 pub struct Reply {
     pub tag: u64,

@@ -8,6 +8,8 @@ ghost use Rattle.plan.specs.Tables.{slot, facility, slot_of, codes, other_codes,
 ghost use Rattle.plan.specs.Plan.{zero_plan, run_counts, run_lengths, first_length, Small, Spotted, Placed};
 ghost use Rattle.plan.specs.Plan.{total_of, spot_from, spot_of, first_codes, line_codes, codes_of, due_of};
 
+// The four kinds.
+// kept: a state may be handed in with any numbers, and `walk_of` and `sbg_walk`'s contract speak of each kind, known or not.
 pub const VOLUME: u64 = 1;
 
 pub const LEADER: u64 = 2;
@@ -18,6 +20,7 @@ pub const TRAILER: u64 = 4;
 
 // The image's sorts by number: whole counts of two bytes, and complex samples of two floats (document 02,
 // No. 2).
+// kept: a state may be handed in with any sort; `plan_good` and `sbg_walk`'s contract speak of those that there are not.
 pub const COUNTS: u64 = 0;
 
 pub const COMPLEX: u64 = 1;
@@ -114,6 +117,7 @@ fn sort_row(text: [u8; 4], group: u64, ahead: u64, code: u64) -> Sort
 }
 
 // The image's sorts by number, a row each; behind the last one nothing is allowed.
+#[tactic(auto, unfolding(crate::specs::Tables::sort_of))]
 pub fn sort_at(sort: u64) -> Sort
     ensures { result ≡ sort_of sort }
 {
@@ -154,6 +158,7 @@ fn facility() -> Slot
 
 // The rules of row i of the plan, from 0: slots 1, 2, 3, 4, 5, 7, then the eleven facility pairs; past
 // the last row nothing is allowed. It is no array, since one of structs is built anew at each look.
+#[tactic(auto, unfolding(crate::specs::Tables::slot_of))]
 pub fn slot_at(i: u64) -> Slot
     ensures { result ≡ slot_of i }
 {
@@ -183,6 +188,7 @@ fn four_codes(one: u64, two: u64, three: u64, four: u64) -> Codes
 }
 
 // The descriptors of the four kinds, then a directory's pointers and its text.
+#[tactic(auto, unfolding(crate::specs::Tables::other_codes))]
 fn other_codes(i: u64) -> Codes
     ensures { result ≡ other_codes i }
 {
@@ -198,6 +204,7 @@ fn other_codes(i: u64) -> Codes
 }
 
 // The code bytes of a first record.
+#[tactic(auto, unfolding(crate::specs::Plan::first_codes))]
 pub fn first_codes(kind: u64) -> Codes
     ensures { result ≡ first_codes kind }
 {
@@ -212,6 +219,7 @@ pub fn line_codes(sort: u64) -> Codes
 }
 
 // The code bytes of a record of a run; run 0 is the first record.
+#[tactic(auto, unfolding(crate::specs::Plan::codes_of))]
 fn codes_of(kind: u64, p: Plan, run: u64) -> Codes
     ensures { result ≡ codes_of kind p run }
 {
@@ -251,6 +259,7 @@ pub fn zero() -> Plan
     }
 }
 
+#[tactic(auto, unfolding(crate::specs::Plan::first_length))]
 pub fn first_length(kind: u64) -> u64
     ensures { result ≡ first_length kind }
 {
@@ -259,6 +268,7 @@ pub fn first_length(kind: u64) -> u64
 
 // The runs behind the first record: pointers and one text; the leader's slots and facility pairs;
 // the image's lines; none for a trailer.
+#[tactic(auto, unfolding(crate::specs::Plan::run_counts, crate::specs::Plan::run_lengths))]
 pub fn runs_of(kind: u64, p: Plan) -> Runs
     ensures { (result.counts ≡ run_counts kind p) × (result.lengths ≡ run_lengths kind p) }
 {
@@ -332,6 +342,7 @@ fn find(runs: Runs, k: u64, at: u64) -> Spot
 }
 
 // Where record k stands; behind the last one, the place where the file ends.
+#[tactic(auto, unfolding(crate::specs::Plan::spot_of))]
 fn spot_of(kind: u64, p: Plan, k: u64) -> Spot
     requires { Small (run_counts kind p) (run_lengths kind p) }
     ensures value { result ≡ spot_of kind p k }

@@ -32,6 +32,7 @@ fn refused(ordinal: u64, start: u64, number: u64, at: u64) -> Stop
 }
 
 // All planned records are passed.
+#[tactic(auto, unfolding(crate::specs::Turn::ended_of))]
 fn ended(ordinal: u64, start: u64, left: u64, closed: bool) -> Stop
     requires { start ≤ 20000000000000 }
     ensures { result ≡ ended_of ordinal start left closed }
@@ -46,6 +47,7 @@ fn ended(ordinal: u64, start: u64, left: u64, closed: bool) -> Stop
 }
 
 // Too few bytes have come.
+#[tactic(auto, unfolding(crate::specs::Turn::short_of))]
 fn short(ordinal: u64, start: u64, closed: bool, missing: u64) -> Stop
     requires { start ≤ 20000000000000 }
     ensures { result ≡ short_of ordinal start closed missing }
