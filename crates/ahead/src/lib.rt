@@ -22,27 +22,22 @@ fn header_fine(sort: u64, codes: u64, l: u64, k: u64, b: &[u8]) -> bool
     requires { (codes ≡ codes_number sort) × (k ≤ records_most) × (12 ≤ length b.now) }
     ensures { result ≡ all_hold (header_tests (k + 1) (line_codes sort) l b.now) }
 {
-    let number = words::is(words::four_there(b, 0), k + 1);
-    let coded = words::is(words::four_there(b, 4), codes);
-    let length = words::is(words::four_there(b, 8), l);
-    words::both(number, words::both(coded, length))
+    let number = words::four_there(b, 0);
+    let coded = words::four_there(b, 4);
+    let length = words::four_there(b, 8);
+    number == k + 1 && coded == codes && length == l
 }
 
 // Line k's record, of that sort, begins these bytes, is whole, has room for a line's numbers, and holds what it must.
+#[tactic(auto, unfolding(crate::specs::Lines::line_fine))]
 fn line_fine(sort: u64, codes: u64, w: u64, l: u64, k: u64, b: &[u8]) -> bool
     requires { (codes ≡ codes_number sort) × (k ≤ records_most) }
     ensures { result ≡ line_fine sort w l k b.now }
 {
-    if (b.len() as u64) < l {
+    if (b.len() as u64) < l || l < 32 {
         return false;
     }
-    if l < 32 {
-        return false;
-    }
-    words::both(
-        header_fine(sort, codes, l, k, b),
-        image::line_there(w, k, &b[..l as usize]),
-    )
+    header_fine(sort, codes, l, k, b) && image::line_there(w, k, &b[..l as usize])
 }
 
 // How many lines from line k on pass one after the other, at most that many.

@@ -6,7 +6,8 @@
 
 ghost use Rattle.std.specs.Prelude.{◌≡◌};
 ghost use Rattle.plan.specs.Plan.{volume, leader, image, trailer};
-ghost use Rattle.bodies.specs.Bodies.{body_of};
+ghost use Rattle.verdicts.specs.Tests.{first_fault};
+ghost use Rattle.bodies.specs.Bodies.{body_tests};
 ghost use Rattle.bodies.specs.Named.{first_of, found_of};
 
 use plan::{Plan, Runs};
@@ -78,10 +79,10 @@ fn first(kind: u64, r: &[u8]) -> Result<Plan, Refusal>
 }
 
 // What is found in record k's body (k from 0), which is of that run and not the first.
-#[tactic(auto, unfolding(crate::specs::Bodies::body_of, crate::specs::Bodies::body_tests, crate::specs::Bodies::trailer_tests, image::specs::Image::image_record))]
+#[tactic(auto, unfolding(crate::specs::Bodies::body_tests, crate::specs::Bodies::trailer_tests, image::specs::Image::image_record))]
 fn later(kind: u64, run: u64, p: Plan, k: u64, r: &[u8]) -> Verdict
     requires { run ≡ 0 → ⊥ }
-    ensures { result ≡ body_of kind run p k r.now }
+    ensures { result ≡ first_fault (body_tests kind run p k r.now) }
 {
     match kind {
         plan::VOLUME => volume::record(run, p.pointers, k, r),
@@ -93,7 +94,7 @@ fn later(kind: u64, run: u64, p: Plan, k: u64, r: &[u8]) -> Verdict
 
 // What is found in record k's body (k from 0), which is of that run, run 0 being the first record: the plan
 // behind it, or its first fault. A first record names the plan; behind any other it is as it was.
-#[tactic(auto, unfolding(crate::specs::Named::found_of))]
+#[tactic(auto, unfolding(crate::specs::Named::found_of, crate::specs::Bodies::body_of))]
 pub fn judge(kind: u64, run: u64, p: Plan, k: u64, r: &[u8]) -> Result<Plan, Refusal>
     ensures { result ≡ found_of kind run p k r.now }
 {

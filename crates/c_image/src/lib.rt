@@ -15,9 +15,6 @@ use c_answer::Reply;
 use copies::Copied;
 use lines::{Unshown, View};
 
-// How many numbers an answer has.
-const ANSWER: usize = c_answer::NUMBERS;
-
 // Why nothing is shown.
 pub fn unshown_reply(x: Unshown) -> Reply
     ensures { result ≡ reply_of (unshown_as x) 0 }
@@ -59,11 +56,7 @@ pub fn sbg_line(bytes: &[u8], line: u64, answer: &mut [u64]) -> u64
     ensures value { result ≡ answered (fits 5 answer.old) }
     ensures answer_after { answer.new ≡ answer_of (view_as (view_of bytes.now line)) answer.old }
 {
-    if answer.len() < ANSWER {
-        return 0;
-    }
-    c_answer::say(view_reply(lines::line_view(bytes, line)), answer);
-    1
+    c_answer::answer_with(answer, &mut || view_reply(lines::line_view(bytes, line)))
 }
 
 // The row copy; a short row is refusal 15.
@@ -72,9 +65,8 @@ pub fn sbg_row(bytes: &[u8], line: u64, row: &mut [u16], answer: &mut [u64]) -> 
     ensures row_after { row.new ≡ row_behind line bytes.now row.old answer.old }
     ensures answer_after { answer.new ≡ answer_of (copied_as (copied_of bytes.now line (length row.old))) answer.old }
 {
-    if answer.len() < ANSWER {
-        return 0;
-    }
-    c_answer::say(copy_reply(copies::row_copy(bytes, line, row)), answer);
-    1
+    c_answer::answer_with(
+        answer,
+        &mut || copy_reply(copies::row_copy(bytes, line, row)),
+    )
 }

@@ -46,19 +46,12 @@ pub fn sbg_begin(kind: u64, state: &mut [u64], answer: &mut [u64]) -> u64
     ensures state_after { state.new ≡ begun_state kind state.old answer.old }
     ensures answer_after { answer.new ≡ begun_answer kind state.old answer.old }
 {
-    if state.len() < STATE {
-        return 0;
-    }
-    if answer.len() < ANSWER {
+    if state.len() < STATE || answer.len() < ANSWER {
         return 0;
     }
     let begun = State::none().begin(kind);
+    c_state::put(begun.unwrap_or(State::none()), state);
     c_answer::say(beginning_reply(begun), answer);
-    let st = match begun {
-        Ok(st) => st,
-        Err(_) => State::none(),
-    };
-    c_state::put(st, state);
     1
 }
 
@@ -74,18 +67,13 @@ pub fn sbg_walk(
     ensures state_after { state.new ≡ walked_state closed budget bytes.now state.old answer.old }
     ensures answer_after { answer.new ≡ walked_answer closed budget bytes.now state.old answer.old }
 {
-    if state.len() < STATE {
-        return 0;
-    }
-    if answer.len() < ANSWER {
+    if state.len() < STATE || answer.len() < ANSWER {
         return 0;
     }
     let st = c_state::get(state);
-    let w = st.walk(bytes, closed != 0, budget);
-    let moved = w.state;
-    let x = w.stop;
-    c_state::put(moved, state);
-    c_answer::say(stop_reply(x, w.count), answer);
+    let walked = st.walk(bytes, closed != 0, budget);
+    c_state::put(walked.state, state);
+    c_answer::say(stop_reply(walked.stop, walked.count), answer);
     1
 }
 

@@ -1,25 +1,20 @@
 -- The row's start, number by number: one more at a time, two a sample; and what a copy leaves of the row behind them.
 use Prim.Native.Nat.{ℕ, zero, suc, ◌+◌, ◌*◌, ◌≤◌, ◌<◌}
 use mathlib.Core.Path.{◌≡◌, refl, sym, ap, ap₂, ◌∙◌}
-use mathlib.Core.List.{List, [], ◌∷◌, ◌++◌}
-use mathlib.Core.Bool.{true, false}
+use mathlib.Core.List.{List, ◌∷◌, ◌++◌}
+use mathlib.Core.Bool.{false}
 use native.Mathlib.Omega.{arith}
 use native.Mathlib.Nat.{add-zero}
 use lib.Dec.{ltb}
-use lib.ListN.{length, get_or, set, drop}
+use lib.ListN.{length, get_or, drop}
 use Rattle.std.proofs.lemmas.List.{ext_get_or}
-use borrow.Author.Tests.{lt-ltb, le-ltb}
 use Rattle.words.specs.Tests.{pick}
 use Rattle.words.specs.Words.{four_at}
-use Rattle.words.specs.Answer.{bare_refusal}
-use Rattle.std.specs.Prelude.{Ok, Err}
-use Rattle.lines.specs.View.{View}
+use Rattle.std.specs.Prelude.{Ok}
 use Rattle.lines.specs.declared.Shown.{Shown}
-use Rattle.lines.specs.declared.Unshown.{Unshown}
-use Rattle.lines.specs.declared.Unshown.TheVariants.{Refused}
 use Rattle.samples.specs.Samples.{is_complex, pattern_at, place_in}
 use Rattle.samples.proofs.StayLaws.{four_stays}
-use Rattle.complex_rows.specs.Parts.{fours, parts, parts_copied_by, parts_row_by}
+use Rattle.complex_rows.specs.Parts.{fours, parts, parts_row_by}
 
 -- ---- numbers of four bytes, one more at a time
 
@@ -37,7 +32,8 @@ four_of bs at (suc n) (suc i) h =
     four_of bs (at + 4) n i (omega arith) ∙ ap (λ (k : ℕ). four_at bs k) (let e : at + 4 + 4 * i ≡ at + 4 * suc i = omega arith in e)
 
 -- numbers each of which is that number are the numbers
-pub fours_are : (n : ℕ) (bs : List ℕ) (at : ℕ) (row : List ℕ) → length row ≡ n → ((k : ℕ) → k < n → get_or row k 0 ≡ four_at bs (at + 4 * k)) → row ≡ fours bs at n
+pub fours_are : (n : ℕ) (bs : List ℕ) (at : ℕ) (row : List ℕ) → length row ≡ n → ((k : ℕ) → k < n → get_or row k 0 ≡ four_at bs (at + 4 * k))
+    → row ≡ fours bs at n
 fours_are n bs at row long each =
     ext_get_or 0 row (fours bs at n) (long ∙ sym (length_fours bs at n))
     (λ i h. let below : i < n = omega arith in each i below ∙ sym (four_of bs at n i below))

@@ -1,21 +1,20 @@
 -- The row's start, sample by sample: samples one more at a time, each where it stands, and what a copy leaves of the row behind them.
 use Prim.Native.Nat.{ℕ, zero, suc, ◌+◌, ◌*◌, ◌≤◌, ◌<◌}
 use mathlib.Core.Path.{◌≡◌, refl, sym, ap, ◌∙◌, subst}
-use mathlib.Core.List.{List, [], ◌∷◌, ◌++◌}
+use mathlib.Core.List.{List, ◌++◌}
 use native.Mathlib.Omega.{arith}
 use native.Mathlib.Nat.{add-zero, zero-add}
-use lib.ListN.{length, get_or, set, take, drop}
+use lib.ListN.{length, get_or, take, drop}
 use Rattle.std.proofs.lemmas.List.{ext_get_or}
 use borrow.Author.Tests.{lt-ltb, le-ltb, eq-eqb, ne_eqb}
 use Rattle.words.specs.Words.{two_at}
 use Rattle.words.specs.Answer.{bare_refusal}
 use Rattle.plan.specs.Tables.{sort_of}
-use Rattle.lines.specs.View.{View, view_of, sort_seen, sorted_of}
+use Rattle.lines.specs.View.{View, sorted_of}
 use Rattle.lines.specs.declared.Sorted.{Sorted}
 use Rattle.lines.proofs.InsideLaws.{shown_within}
 use Rattle.copies.specs.Row.{samples_from, samples, copied_by, row_by, copied_of, row_of}
 use Rattle.lines.specs.declared.Shown.{Shown}
-use Rattle.lines.specs.declared.Unshown.{Unshown}
 use Rattle.lines.specs.declared.Unshown.TheVariants.{Refused}
 use Rattle.std.specs.Prelude.{Ok, Err}
 

@@ -1,9 +1,10 @@
 -- The number fields as the loop reads them, the ranges of a descriptor whose number fields have no fault, and the descriptor step by step.
-use Prim.Native.Nat.{ℕ, ◌+◌, ◌≤◌, ◌<◌}
+use Prim.Native.Nat.{ℕ, ◌+◌, ◌*◌, ◌≤◌, ◌<◌}
 use mathlib.Core.Path.{◌≡◌, sym, ap, ◌∙◌}
 use mathlib.Core.List.{List, ◌++◌, map}
 use mathlib.Core.Bool.{Bool, true, false}
 use native.Mathlib.Omega.{arith}
+use native.Mathlib.Nat.{mul-le-mul}
 use lib.ListN.{get_or}
 use lib.Seq.{slice}
 use Rattle.std.specs.Prelude.{Ok, Err}
@@ -11,6 +12,7 @@ use Rattle.words.specs.Tests.{pick}
 use Rattle.words.specs.Words.{place_of}
 use Rattle.words.specs.declared.Refusal.{Refusal}
 use Rattle.plan.specs.Tables.{sort_of, last_sort}
+use Rattle.plan.proofs.CodeLaws.{sort_modest}
 use Rattle.decimal.specs.declared.Form.TheVariants.{I4, I6, I8}
 use Rattle.decimal.specs.declared.Number.{Number as Value}
 use Rattle.verdicts.specs.Tests.{Test, first_fault, each, text_at, whole_of}
@@ -41,6 +43,12 @@ pub bounded : (sort : ℕ) (r : List ℕ) → Holds (numbers_tests r (image_numb
 bounded sort r h =
     let in_row = row_holds r (image_numbers sort) h in
     record { n = in_row 0 (omega arith); l = in_row 1 (omega arith); w = in_row 5 (omega arith); d = in_row 6 (omega arith); s = in_row 7 (omega arith) }
+
+-- a group for each pixel is small, whatever the sort
+pub groups_fit : (sort w : ℕ) → w ≤ 99999999 → (sort_of sort).group * w ≤ 799999992
+groups_fit sort w h = omega (arith, mul-le-mul (sort_modest sort).0 h)
+
+pub ruleset modest = (groups_fit, sort_modest)
 
 -- ---- the number fields, as the loop reads them
 
@@ -124,3 +132,5 @@ module _ (r : List ℕ) where
             sort = sort_in r;
           })) was.1
           ∙ named_fine (described_in r) (behind_numbers ∙ k)
+
+pub ruleset steps = (text_fault, number_fault, values_in, agree_fault, all_named)

@@ -69,6 +69,7 @@ fn number_at(r: &[u8], sort: u64, i: usize) -> Result<Number, Refusal>
 }
 
 // The number fields, each read once: the first that is refused is the fault.
+#[tactic(auto, using(crate::proofs::ImageLaws::row_fault), unfolding(crate::specs::Image::numbers_of, verdicts::specs::Numbers::numbers_tests))]
 fn read_numbers(r: &[u8], sort: u64) -> Result<[u64; 8], Refusal>
     ensures { result ≡ numbers_of sort r.now }
 {
@@ -81,7 +82,7 @@ fn read_numbers(r: &[u8], sort: u64) -> Result<[u64; 8], Refusal>
 
 // Both line counts equal; d is a group for each pixel; what goes before, the data and the suffix
 // fit L. The numbers have passed their ranges, so no sum wraps.
-#[tactic(auto, unfolding(crate::specs::Image::agree_tests, verdicts::specs::Tests::first_fault))]
+#[tactic(auto, using(crate::proofs::ImageLaws::modest), unfolding(crate::specs::Image::agree_tests, verdicts::specs::Tests::first_fault))]
 fn agree(sort: u64, n: u64, l: u64, lines: u64, w: u64, d: u64, s: u64) -> Verdict
     requires { (w ≤ 99999999) × (d ≤ 99999999) × (s ≤ 9999) }
     ensures { result ≡ first_fault (agree_tests sort n l lines w d s) }
@@ -95,6 +96,7 @@ fn agree(sort: u64, n: u64, l: u64, lines: u64, w: u64, d: u64, s: u64) -> Verdi
 
 // The descriptor: fixed texts, number fields and agreements, in this order, and the numbers that it
 // names for the plan; or its first fault.
+#[tactic(auto, using(crate::proofs::ImageLaws::steps))]
 pub fn descriptor(r: &[u8]) -> Result<Described, Refusal>
     ensures { result ≡ described_of r.now }
 {

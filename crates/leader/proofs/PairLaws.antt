@@ -123,3 +123,5 @@ module _ (r : List ℕ) (x : Pair) where
           let l = needed_number (place_of (x.byte + 6)) (last_of (x.byte + 6) x.form) (slot_in x.row).shortest (slot_in x.row).longest
           (at r (x.byte + 6) x.form) o ∙ sym (length_some some) in
           ap₂ (λ (a b : ℕ). Ok (record { count = a; length = b })) count_is l ∙ named_fine _ (pair_some of_fine some ∙ of_length ∙ ap verdict_of o)
+
+pub ruleset steps = (slot_is, bad_count, none_held, bad_length, pair_held)

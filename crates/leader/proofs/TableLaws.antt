@@ -1,5 +1,5 @@
 -- A rule of a table holds at each of its places: one test, computed over the whole table, entry after entry.
-use Prim.Native.Nat.{ℕ, zero, suc, ◌+◌, ◌*◌, ◌≤◌, ◌<◌}
+use Prim.Native.Nat.{ℕ, zero, suc, ◌+◌, ◌-◌, ◌*◌, ◌≤◌, ◌<◌}
 use mathlib.Core.Path.{◌≡◌, refl, sym, ap, ◌∙◌, subst}
 use mathlib.Core.List.{List, [], ◌∷◌}
 use mathlib.Core.Bool.{Bool, true, false, false≢true}
@@ -77,7 +77,7 @@ pair_slot (suc (suc (suc (suc (suc (suc (suc (suc (suc (suc (suc (suc (suc zero)
 pair_slot (suc (suc (suc (suc (suc (suc (suc (suc (suc (suc (suc (suc (suc (suc zero)))))))))))))) h = refl
 pair_slot (suc (suc (suc (suc (suc (suc (suc (suc (suc (suc (suc (suc (suc (suc (suc i))))))))))))))) h = absurd (omega arith)
 
-pub pair_facility : (i : ℕ) → i < 11 → pair (421 + 14 * i) I8 (Some (6 + i)) ≡ pair_row (15 + i)
+pair_facility : (i : ℕ) → i < 11 → pair (421 + 14 * i) I8 (Some (6 + i)) ≡ pair_row (15 + i)
 unfolding pair_row
 pair_facility zero h = refl
 pair_facility (suc zero) h = refl
@@ -91,6 +91,12 @@ pair_facility (suc (suc (suc (suc (suc (suc (suc (suc zero)))))))) h = refl
 pair_facility (suc (suc (suc (suc (suc (suc (suc (suc (suc zero))))))))) h = refl
 pair_facility (suc (suc (suc (suc (suc (suc (suc (suc (suc (suc zero)))))))))) h = refl
 pair_facility (suc (suc (suc (suc (suc (suc (suc (suc (suc (suc (suc i))))))))))) h = absurd (omega arith)
+
+pub pair_behind : (i : ℕ) → 15 ≤ i → i < 26 → pair (421 + 14 * (i - 15)) I8 (Some (i - 9)) ≡ pair_row i
+pair_behind i l h =
+    let a : i - 9 ≡ 6 + (i - 15) = omega arith in
+    let b : 15 + (i - 15) ≡ i = omega arith in
+    ap (λ (n : ℕ). pair (421 + 14 * (i - 15)) I8 (Some n)) a ∙ pair_facility (i - 15) (omega arith) ∙ ap pair_row b
 
 -- an admitted pair is the pair of its row, which is one of the plan's
 abbrev admits : ℕ → Option ℕ → Bool

@@ -129,5 +129,5 @@ unfoldable pub pair_of : List ℕ → Pair → Result Held Refusal
 pair_of r x = named_by (first_fault (pair_tests r x)) (record { count = count_at r x; length = length_at r x })
 
 -- all of them: the plan's counts and lengths, or the first fault
-unfoldable pub pairs_of : List ℕ → Result Runs Refusal
+abbrev pub pairs_of : List ℕ → Result Runs Refusal
 pairs_of r = named_by (first_fault (each (pair_tests r) pairs)) (runs_in r)

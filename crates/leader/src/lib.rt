@@ -42,6 +42,7 @@ fn slot_row(i: usize) -> Option<usize>
 
 // Pair i of the descriptor, from 0, by position: slots 1 to 15 from byte 181 on, 12 bytes each, then the
 // eleven facility pairs from byte 421 on, 14 bytes each.
+#[tactic(auto, using(crate::proofs::TableLaws::pair_slot, crate::proofs::TableLaws::pair_behind))]
 fn pair_row(i: usize) -> Pair
     requires { i < 26 }
     ensures value { result ≡ pair_row i }
@@ -64,6 +65,7 @@ fn pair_row(i: usize) -> Pair
 
 // A pair under its slot's ranges: the count, where blank is 0; then, where that is not 0, the length. Behind
 // the plan's last row nothing is allowed, and so neither of a slot that is not admitted.
+#[tactic(auto, using(crate::proofs::PairLaws::steps))]
 fn read_pair(r: &[u8], x: Pair) -> Result<Held, Refusal>
     requires { x.byte ≤ 1000 }
     ensures { result ≡ pair_of r.now x }
@@ -99,6 +101,7 @@ fn read_pairs(r: &[u8]) -> Result<Runs, Refusal>
 
 // The descriptor: its text, then the pairs; and the counts and lengths that it names for the plan, or its
 // first fault.
+#[tactic(auto, using(verdicts::proofs::TestLaws::heads), unfolding(crate::specs::Leader::described_of, crate::specs::Leader::leader_tests))]
 pub fn descriptor(r: &[u8]) -> Result<Runs, Refusal>
     ensures { result ≡ described_of r.now }
 {
@@ -107,6 +110,7 @@ pub fn descriptor(r: &[u8]) -> Result<Runs, Refusal>
 }
 
 // The listed fields from one to before another: each a value or blank.
+#[tactic(auto, unfolding(crate::specs::Leader::fields_tests))]
 fn listed(r: &[u8], from: usize, to: usize) -> Verdict
     requires { (from ≤ to) × (to ≤ 13) }
     ensures { result ≡ first_fault (fields_tests r.now from to) }

@@ -27,7 +27,7 @@ use Rattle.walk.specs.declared.State.{State}
 use Rattle.walk.specs.declared.Walked.{Walked}
 use Rattle.walk.proofs.GoodLaws.{fresh_good}
 use Rattle.walk.proofs.KeptLaws.{good_kept}
-use Rattle.lines.specs.View.{View, line_of, behind_first, first_of, view_of, sort_seen, sorted_of, Lined, Leads}
+use Rattle.lines.specs.View.{line_of, behind_first, first_of, view_of, sort_seen, sorted_of, Lined, Leads}
 use Rattle.lines.specs.declared.Sorted.{Sorted}
 use Rattle.lines.specs.declared.Unshown.{Unshown}
 use Rattle.lines.specs.declared.Unshown.TheVariants.{Wait, Refused}

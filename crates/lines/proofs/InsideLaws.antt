@@ -78,7 +78,8 @@ module _ (p : Plan) (paired : p.d ≡ group_of p * p.w) (room : p.d + p.s ≤ p.
   line_within k bs start count left e = seen_within k bs start count left (line_seen p k bs start count left e)
 
 -- and of a line that is shown under the first record's plan, by the bytes of its sort
-pub shown_within : (bs : List ℕ) (k start count left : ℕ) → view_of bs k ≡ shown_view start count left → start + (sort_of (sort_seen bs)).group * count ≤ length bs
+pub shown_within : (bs : List ℕ) (k start count left : ℕ) → view_of bs k ≡ shown_view start count left
+    → start + (sort_of (sort_seen bs)).group * count ≤ length bs
 unfolding sort_seen
 shown_within bs k start count left e =
     let p = (first_of bs).state.plan in

@@ -1,8 +1,7 @@
 -- The line view one test at a time, and back: where a line is shown, each of its tests has held, and its data pixels lie inside its record.
 use Prim.Native.Nat.{ℕ, ◌+◌, ◌-◌, ◌*◌, ◌≤◌, ◌<◌}
 use mathlib.Core.Path.{◌≡◌, refl, sym, ap, ◌∙◌}
-use mathlib.Core.List.{List, [], ◌∷◌}
-use mathlib.Core.Logic.{⊎_elim}
+use mathlib.Core.List.{List, []}
 use mathlib.Core.Bool.{Bool, true, false}
 use native.Mathlib.Omega.{arith}
 use lib.Dec.{ltb}
@@ -22,8 +21,8 @@ use Rattle.turns.specs.Turn.{Near}
 use Rattle.turns.specs.declared.Stop.{Stop}
 use Rattle.turns.specs.declared.Stop.TheVariants.{Wait as Wait', Pause, Complete, Refused as Refused'}
 use Rattle.turns.proofs.FaultLaws.{header_near, body_near}
-use Rattle.lines.specs.View.{View, shown_view, left_of, data_of, pixels_from, shown_of, on_verdict, found_in, record_at, line_at, line_of, behind_first, first_of, view_of}
-use Rattle.lines.specs.View.{sort_seen, shown_bytes, pixels_of}
+use Rattle.lines.specs.View.{View, shown_view, left_of, data_of, pixels_from, shown_of, on_verdict, found_in, record_at, line_at}
+use Rattle.lines.specs.View.{line_of, behind_first, first_of, view_of, sort_seen, shown_bytes, pixels_of}
 use Rattle.lines.specs.declared.Shown.{Shown}
 use Rattle.lines.specs.declared.Unshown.{Unshown}
 use Rattle.lines.specs.declared.Unshown.TheVariants.{Wait, Refused}

@@ -5,7 +5,7 @@ use Rattle.words.specs.Tests.{pick, within_of}
 use Rattle.words.specs.Words.{four_at, place_of}
 use Rattle.words.specs.Answer.{bare_refusal}
 use Rattle.plan.specs.Tables.{sort_of}
-use Rattle.plan.specs.Plan.{image, group_of, ahead_of, due_of, run_counts, run_lengths, Small}
+use Rattle.plan.specs.Plan.{image, group_of, due_of, run_counts, run_lengths, Small}
 use Rattle.plan.specs.declared.Plan.{Plan}
 use Rattle.plan.specs.declared.Due.{Due}
 use Rattle.verdicts.specs.Tests.{Verdict, and_then}

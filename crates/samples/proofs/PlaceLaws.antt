@@ -1,14 +1,14 @@
 -- Where a sample stands: a place behind the bytes is clipped to their end, and reads the same there.
 use Prim.Native.Nat.{ℕ, ◌+◌, ◌*◌, ◌≤◌, ◌<◌}
-use mathlib.Core.Path.{◌≡◌, refl, sym, ap, ◌∙◌}
+use mathlib.Core.Path.{◌≡◌, refl, ap, ◌∙◌}
 use mathlib.Core.List.{List}
 use mathlib.Core.Bool.{Bool, true, false}
 use native.Mathlib.Omega.{arith}
 use lib.Dec.{ltb}
 use lib.ListN.{length}
-use borrow.Author.Tests.{le-ltb, ltb-true, ltb-false}
+use borrow.Author.Tests.{ltb-false}
 use Rattle.words.specs.Tests.{pick}
-use Rattle.words.specs.Words.{two_at, four_at}
+use Rattle.words.specs.Words.{two_at}
 use Rattle.words.proofs.Laws.{two_none, four_none}
 use Rattle.samples.specs.declared.Pattern.{Pattern}
 use Rattle.samples.specs.declared.Sample.TheVariants.{Count, Complex}

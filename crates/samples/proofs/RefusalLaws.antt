@@ -1,14 +1,13 @@
 -- Which refusal a sample or a power of a shown line gets, and exactly when: by the tests of the definition in their order.
 use Prim.Native.Nat.{ℕ, ◌+◌, ◌≤◌, ◌<◌}
-use mathlib.Core.Path.{◌≡◌, refl, sym, ap, ◌∙◌}
+use mathlib.Core.Path.{◌≡◌, refl, ap, ◌∙◌}
 use mathlib.Core.List.{List}
 use mathlib.Core.Logic.{◌⊎◌, inl, inr}
 use mathlib.Core.Bool.{Bool, true, false}
-use native.Mathlib.Omega.{arith}
 use lib.Dec.{ltb}
 use borrow.Author.Tests.{lt-ltb, ltb-true, ltb-false}
 use Rattle.words.specs.Tests.{pick}
-use Rattle.words.specs.Words.{two_at, four_at}
+use Rattle.words.specs.Words.{four_at}
 use Rattle.words.specs.Answer.{bare_refusal}
 use Rattle.words.specs.declared.Refusal.{Refusal}
 use Rattle.floats.specs.Floats.{float_of, all_finite, power_of}
@@ -16,8 +15,7 @@ use Rattle.floats.proofs.Laws.{none_why, why_none}
 use Rattle.std.specs.Prelude.{Option, Some, None, Ok, Err}
 use Rattle.lines.specs.declared.Shown.{Shown}
 use Rattle.lines.specs.declared.Unshown.TheVariants.{Refused}
-use Rattle.samples.specs.declared.Sample.TheVariants.{Count, Complex}
-use Rattle.samples.specs.Samples.{Patterned, Powered, is_complex, place_in, pattern_at, stands_at, patterned_by, on_power, power_at, powered_by}
+use Rattle.samples.specs.Samples.{Patterned, Powered, is_complex, place_in, stands_at, patterned_by, on_power, power_at, powered_by}
 
 module _ (x : Shown) (sort : ℕ) (bs : List ℕ) (i : ℕ) (r : Refusal) where
   -- a sample of a shown line: 36 alone, and only outside the line's data pixels

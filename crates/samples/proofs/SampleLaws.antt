@@ -1,18 +1,17 @@
 -- A sample by what the view shows, one test at a time; and the bits that its floats keep.
-use Prim.Native.Nat.{ℕ, ◌+◌, ◌*◌, ◌≤◌, ◌<◌}
+use Prim.Native.Nat.{ℕ, ◌+◌, ◌≤◌, ◌<◌}
 use mathlib.Core.Path.{◌≡◌, refl, sym, ap, ◌∙◌}
 use mathlib.Core.List.{List}
 use mathlib.Core.Bool.{Bool, true, false, not, false≢true}
 use native.Mathlib.Omega.{arith}
 use lib.Dec.{T, ltb}
 use lib.ListN.{length}
-use lib.Ieee.{binary32, nan_bits, to_bits}
+use lib.Ieee.{binary32, nan_bits}
 use borrow.Author.Tests.{lt-ltb, le-ltb}
 use Rattle.words.specs.Tests.{pick}
 use Rattle.words.specs.Words.{byte_at, two_at, four_at}
 use Rattle.words.specs.Answer.{bare_refusal}
-use Rattle.words.specs.declared.Refusal.{Refusal}
-use Rattle.floats.specs.Floats.{float_of, power_of}
+use Rattle.floats.specs.Floats.{power_of}
 use Rattle.words.proofs.Laws.{both_l, both_r}
 use Rattle.floats.proofs.Laws.{bits_kept}
 use Rattle.std.specs.Prelude.{Ok, Err}
@@ -23,7 +22,7 @@ use Rattle.lines.specs.declared.Unshown.TheVariants.{Refused}
 use Rattle.samples.specs.declared.Sample.{Sample}
 use Rattle.samples.specs.declared.Sample.TheVariants.{Count, Complex}
 use Rattle.samples.specs.declared.Pattern.{Pattern}
-use Rattle.samples.specs.Samples.{Patterned, is_complex, group_of, clipped, place_in, pattern_at, stands_at, patterned_by, floats, floated, sampled_by}
+use Rattle.samples.specs.Samples.{Patterned, is_complex, clipped, place_in, pattern_at, stands_at, patterned_by, floats, floated, sampled_by}
 use Rattle.samples.specs.Samples.{on_power, powered_by, bits_of, no_nan}
 use Rattle.samples.specs.Said.{patterned_as, sampled_as}
 use Rattle.samples.proofs.PlaceLaws.{pattern_clipped, stands_clipped}
@@ -55,8 +54,8 @@ module _ (v : View) (sort : ℕ) (bs : List ℕ) (i : ℕ) where
     pub power_outside : is_complex sort ≡ true → y.count ≤ i → Err (Refused (bare_refusal 36)) ≡ powered_by v sort bs i
     power_outside k h = sym (ap (λ (x : View). powered_by x sort bs i) e ∙ simp (k, le-ltb _ _ h))
 
-    pub power_there : is_complex sort ≡ true → i < y.count → (at : ℕ) → at ≡ clipped (length bs) (place_in y.start sort i) → (p : Pattern) → p ≡ pattern_at bs at
-        → on_power (power_of p.re p.im) ≡ powered_by v sort bs i
+    pub power_there : is_complex sort ≡ true → i < y.count → (at : ℕ) → at ≡ clipped (length bs) (place_in y.start sort i) → (p : Pattern)
+        → p ≡ pattern_at bs at → on_power (power_of p.re p.im) ≡ powered_by v sort bs i
     power_there k h at q p is =
         ap (λ (x : Pattern). on_power (power_of x.re x.im))
         (is ∙ ap (λ (a : ℕ). pattern_at bs a) q ∙ pattern_clipped bs (place_in y.start sort i))

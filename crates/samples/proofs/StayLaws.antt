@@ -1,5 +1,5 @@
 -- What is said of a sample that lies within the bytes stays so for any further bytes: none of its bytes changes.
-use Prim.Native.Nat.{ℕ, ◌+◌, ◌*◌, ◌≤◌, ◌<◌}
+use Prim.Native.Nat.{ℕ, ◌+◌, ◌*◌, ◌≤◌}
 use mathlib.Core.Path.{◌≡◌, refl, ap, ap₂, subst}
 use mathlib.Core.List.{List, ◌++◌}
 use mathlib.Core.Bool.{Bool, true, false}
@@ -8,7 +8,7 @@ use lib.Dec.{ltb}
 use lib.ListN.{length, get_or-append}
 use borrow.Author.Tests.{ltb-true}
 use Rattle.words.specs.Tests.{pick}
-use Rattle.words.specs.Words.{byte_at, two_at, four_at}
+use Rattle.words.specs.Words.{two_at, four_at}
 use Rattle.words.specs.Answer.{bare_refusal}
 use Rattle.floats.specs.Floats.{power_of}
 use Rattle.std.specs.Prelude.{Ok, Err}

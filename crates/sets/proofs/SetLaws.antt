@@ -1,31 +1,28 @@
 -- The set check behind the directory's walk, whose state is good and so has at most six pointers.
-use Prim.Native.Nat.{ℕ, ◌+◌, ◌≤◌, ◌<◌}
+use Prim.Native.Nat.{ℕ, ◌≤◌}
 use mathlib.Core.Path.{◌≡◌, refl, sym, ap, ◌∙◌, subst}
-use mathlib.Core.List.{List, [], ◌∷◌}
+use mathlib.Core.List.{List}
 use mathlib.Core.Bool.{true}
 use mathlib.Core.Logic.{⊎_elim}
-use native.Mathlib.Numerals.{add-one}
 use native.Mathlib.Omega.{arith}
 use lib.Dec.{eqb}
-use lib.ListN.{length, get_or, drop, drop_of_length-le}
-use lib.Seq.{drop-cons}
+use lib.ListN.{length}
 use borrow.Author.Tests.{eq-eqb, ne_eqb, eqb-true, eqb-false}
 use Rattle.std.specs.Prelude.{Err}
-use Rattle.words.specs.Tests.{pick, within_of}
+use Rattle.words.specs.Tests.{within_of}
 use Rattle.words.specs.Words.{place_of}
 use Rattle.words.specs.declared.Refusal.{Refusal}
 use Rattle.words.proofs.Laws.{both_l, both_r, cases, within_true}
 use Rattle.plan.specs.Plan.{volume, zero_plan?, volume_good, plan_good}
 use Rattle.plan.specs.declared.Plan.{Plan}
 use Rattle.walk.specs.State.{fresh, good_state}
-use Rattle.walk.specs.Walk.{walk_of, begin_of}
 use Rattle.walk.specs.declared.State.{State}
 use Rattle.turns.specs.declared.Stop.{Stop}
 use Rattle.turns.specs.declared.Stop.TheVariants.{Wait, Pause, Complete, Refused}
 use Rattle.walk.specs.declared.Walked.{Walked}
 use Rattle.walk.proofs.GoodLaws.{good_zero, good_later, fresh_good}
 use Rattle.walk.proofs.KeptLaws.{good_kept, kind_kept}
-use Rattle.sets.specs.Set.{Agreement, differs, count_byte, count_of, compare_from, compare_of, behind_walk, directory, set_of}
+use Rattle.sets.specs.Set.{Agreement, differs, compare_from, compare_of, behind_walk, directory, set_of}
 
 -- ---- behind the directory's walk
 

@@ -7,7 +7,7 @@ ghost use Rattle.std.specs.Prelude.{◌≤◌, length};
 ghost use Rattle.std.specs.Iterator.{at_most};
 
 use std::fmt;
-use std::io::{BufRead, BufReader, Input};
+use std::io::{BufRead, BufReader, Input, Read};
 use words::Refusal;
 
 // What a command line holds behind its operation's byte. Each number stands behind one byte, a blank or
@@ -90,16 +90,17 @@ pub fn part(held: &[u8], from: u64, long: u64) -> &[u8] {
     &rest[..(long as usize).min(rest.len())]
 }
 
-// Runs the commands of standard input, one to a line, over so many bytes held: `# TEXT` is printed as it
-// stands, c, p, b and q change the bytes held, and any other operation is answered by `ask`.
-pub fn run<R, F>(rt: &R, held: usize, mut ask: F) -> std::io::Result<()>
+// Runs the commands of standard input, one to a line, of which at most so many bytes are read, over so many
+// bytes held: `# TEXT` is printed as it stands, c, p, b and q change the bytes held, and any other
+// operation is answered by `ask`.
+pub fn run<R, F>(rt: &R, most: u64, held: usize, mut ask: F) -> std::io::Result<()>
 where
     R: AllocGlobal + Input + Print,
     F: FnMut(u8, Numbers<'_>, &[u8]) -> std::io::Result<()>,
     requires { F.IsAlwaysCallable ask }
 {
     let mut bytes = vec![in rt.alloc(); 0u8; held]?;
-    for line in BufReader::new(rt.alloc(), rt.reader())?.split(rt.alloc(), b'\n') {
+    for line in BufReader::new(rt.alloc(), rt.reader().take(most))?.split(rt.alloc(), b'\n') {
         let line = line?;
         let Some((&op, rest)) = line.split_first() else {
             continue;

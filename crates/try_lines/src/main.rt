@@ -14,6 +14,9 @@ use lines::{Shown, Unshown};
 use std::fmt;
 use try_commands::{Numbers, Refused, part};
 
+// How many bytes of commands are read.
+const READ: u64 = 262144;
+
 // How many bytes are held.
 const HELD: usize = 65536;
 
@@ -97,5 +100,10 @@ fn ask<R: AllocGlobal + Print>(
 }
 
 fn main(rt: HostRuntime) -> std::io::Result<()> {
-    try_commands::run(&rt, HELD, |op, numbers, held| ask(&rt, op, numbers, held))
+    try_commands::run(
+        &rt,
+        READ,
+        HELD,
+        |op, numbers, held| ask(&rt, op, numbers, held),
+    )
 }

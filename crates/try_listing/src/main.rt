@@ -10,6 +10,9 @@
 use std::io::{Read, sink, writer};
 use try_commands::{Numbers, part};
 
+// How many bytes of commands are read.
+const READ: u64 = 262144;
+
 // How many bytes are held.
 const HELD: usize = 65536;
 
@@ -37,5 +40,10 @@ fn ask<P: Print>(rt: &P, op: u8, mut numbers: Numbers<'_>, held: &[u8]) -> std::
 }
 
 fn main(rt: HostRuntime) -> std::io::Result<()> {
-    try_commands::run(&rt, HELD, |op, numbers, held| ask(&rt, op, numbers, held))
+    try_commands::run(
+        &rt,
+        READ,
+        HELD,
+        |op, numbers, held| ask(&rt, op, numbers, held),
+    )
 }

@@ -18,6 +18,9 @@ use std::fmt;
 use try_commands::{Numbers, Refused, part};
 
 // How many bytes of a record are held.
+// How many bytes of commands are read.
+const READ: u64 = 65536;
+
 const HELD: usize = 4096;
 
 fn form_of(code: u64) -> Form {
@@ -85,5 +88,10 @@ fn ask<P: Print>(rt: &P, op: u8, mut numbers: Numbers<'_>, held: &[u8]) -> std::
 }
 
 fn main(rt: HostRuntime) -> std::io::Result<()> {
-    try_commands::run(&rt, HELD, |op, numbers, held| ask(&rt, op, numbers, held))
+    try_commands::run(
+        &rt,
+        READ,
+        HELD,
+        |op, numbers, held| ask(&rt, op, numbers, held),
+    )
 }

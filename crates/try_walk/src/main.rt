@@ -19,6 +19,9 @@ use try_commands::{Numbers, Refused, part};
 use turns::Stop;
 use walk::{State, Walked};
 
+// How many bytes of commands are read.
+const READ: u64 = 262144;
+
 // How many bytes are held.
 const HELD: usize = 65536;
 
@@ -119,7 +122,7 @@ fn ask<P: Print>(
 
 fn main(rt: HostRuntime) -> std::io::Result<()> {
     let mut state = State::none();
-    try_commands::run(&rt, HELD, |op, numbers, held| {
+    try_commands::run(&rt, READ, HELD, |op, numbers, held| {
         ask(&rt, &mut state, op, numbers, held)
     })
 }

@@ -10,10 +10,9 @@ use lib.Dec.{eqb, leb, ltb}
 use lib.ListN.{length}
 use lib.Seq.{slice}
 use borrow.Author.Tests.{leb-true, ltb-true}
-use Rattle.std.specs.Prelude.{Result, Ok, Err, Some, None}
+use Rattle.std.specs.Prelude.{Ok, Err, Some, None}
 use Rattle.words.specs.Tests.{pick, both_of}
 use Rattle.words.specs.Answer.{refusal_at}
-use Rattle.words.specs.declared.Refusal.{Refusal}
 use Rattle.words.specs.Words.{place_of}
 use Rattle.words.proofs.Laws.{both_l, both_r}
 use Rattle.words.proofs.Table.{every}

@@ -8,7 +8,7 @@ use Rattle.words.specs.declared.Refusal.{Refusal}
 use Rattle.decimal.specs.declared.Number.{Number as Value}
 use Rattle.verdicts.specs.Tests.{first_fault, each, verdict_of, needed_of, whole_of}
 use Rattle.verdicts.specs.Numbers.{Number, at, last_of, number_at, row_tests, numbers_tests}
-use Rattle.verdicts.proofs.TestLaws.{found, passed}
+use Rattle.verdicts.proofs.TestLaws.{found, passed, heads}
 use Rattle.verdicts.proofs.FieldLaws.{at_unnamed, needed_fault, needed_number}
 
 -- the field of row x, as the code reads it
@@ -44,3 +44,6 @@ module _ (r : List ℕ) (x : Number) where
 pub numbers_none : (r : List ℕ) → first_fault (numbers_tests r []) ≡ Ok tt
 unfolding numbers_tests first_fault
 numbers_none r = refl
+
+-- a text, and number fields behind it
+pub ruleset steps = (heads, numbers_found, numbers_passed, numbers_none, value_is)

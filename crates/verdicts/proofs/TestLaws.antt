@@ -33,6 +33,16 @@ module _ (ts us : List Test) where
   pub passed : first_fault ts ≡ Ok tt → first_fault (ts ++ us) ≡ first_fault us
   passed q = rw (fault_append ts us, q)
 
+-- of one test, and others behind it
+module _ (t : Test) (us : List Test) where
+  pub head_found : {x : Refusal} → first_fault (t ∷ []) ≡ Err x → first_fault (t ∷ us) ≡ Err x
+  head_found q = found (t ∷ []) us q
+
+  pub head_passed : first_fault (t ∷ []) ≡ Ok tt → first_fault (t ∷ us) ≡ first_fault us
+  head_passed q = passed (t ∷ []) us q
+
+pub ruleset heads = (head_found, head_passed)
+
 -- a fault is not fine
 pub not_fine : {v : Verdict} {x : Refusal} → v ≡ Err x → v ≡ Ok tt → ⊥
 not_fine q e = let z : ◌≡◌ {A = ℕ} 0 1 = cc in omega arith

@@ -18,6 +18,7 @@ use words::Refusal;
 pub type Verdict = Result<(), Refusal>;
 
 // The bytes from document 01's byte on are this text.
+#[tactic(auto, using(crate::proofs::TextLaws::steps), unfolding(words::specs::Words::place_of))]
 pub fn text(r: &[u8], byte: usize, t: &[u8]) -> bool
     requires { byte + length t.now < 1000 }
     ensures { result ≡ text_at r.now (place_of byte) t.now }
@@ -94,21 +95,19 @@ pub fn field(r: &[u8], byte: usize, form: Form) -> Field
 
 // The field of that form at document 01's byte, which must be a number in a range: the number, or the
 // refusal. Its form (6, of a blank field at its last byte), then its range (7, at its first). Where there
-// is no upper end, `most` is the largest number.
+// is no upper end, `most` is the largest number. The value is taken by `let .. else`, or the refusal handed
+// up, here and in `count`: docs/RULES.md, "Forms for each place".
+#[tactic(auto, using(fields::proofs::Laws::blank_there))]
 pub fn number(r: &[u8], byte: usize, form: Form, least: u64, most: u64) -> Result<Number, Refusal>
     ensures { result ≡ needed_of (at r.now byte form) (place_of byte) (last_of byte form) least most }
 {
     let first = words::place(byte);
-    match field(r, byte, form) {
-        Field::Value(units, exponent) => in_range(
-            Number { units, exponent },
-            first as u64,
-            least,
-            most,
-        ),
-        Field::Blank => Err(words::at_place(6, (first + (decimal::width(form) - 1)) as u64)),
-        Field::Refused(x) => Err(x),
-    }
+    let said = field(r, byte, form);
+    let Field::Value(units, exponent) = said else {
+        fault(said)?;
+        return Err(words::at_place(6, (first + (decimal::width(form) - 1)) as u64));
+    };
+    in_range(Number { units, exponent }, first as u64, least, most)
 }
 
 // The count of six columns at document 01's byte: the number, or the refusal. It may be blank, and is 0
@@ -116,13 +115,15 @@ pub fn number(r: &[u8], byte: usize, form: Form, least: u64, most: u64) -> Resul
 pub fn count(r: &[u8], byte: usize, least: u64, most: u64) -> Result<Number, Refusal>
     ensures { result ≡ counted_of (at r.now byte I6) (place_of byte) least most }
 {
-    let said = match field(r, byte, Form::I6) {
-        Field::Value(units, exponent) => Number { units, exponent },
-        Field::Blank => Number {
+    let first = words::place(byte) as u64;
+    let said = field(r, byte, Form::I6);
+    let Field::Value(units, exponent) = said else {
+        fault(said)?;
+        let nought = Number {
             units: 0,
             exponent: 0,
-        },
-        Field::Refused(x) => return Err(x),
+        };
+        return in_range(nought, first, least, most);
     };
-    in_range(said, words::place(byte) as u64, least, most)
+    in_range(Number { units, exponent }, first, least, most)
 }

@@ -15,6 +15,7 @@ use verdicts::Verdict;
 use words::Refusal;
 
 // The descriptor: its text, then the pointer count that it names, 3 to 6; or its first fault.
+#[tactic(auto, using(verdicts::proofs::RowLaws::steps), unfolding(crate::specs::Volume::described_of, crate::specs::Volume::volume_tests))]
 pub fn descriptor(r: &[u8]) -> Result<u64, Refusal>
     ensures { result ≡ described_of r.now }
 {
@@ -39,6 +40,7 @@ fn class(m: u64, k: u64, r: &[u8]) -> Verdict
 }
 
 // Pointer k of m: its class, its record count, and its first record length, exactly 720.
+#[tactic(auto, using(verdicts::proofs::RowLaws::steps), unfolding(crate::specs::Volume::pointer_tests))]
 fn pointer(m: u64, k: u64, r: &[u8]) -> Verdict
     ensures { result ≡ first_fault (pointer_tests m k r.now) }
 {

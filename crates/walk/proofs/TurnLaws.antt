@@ -98,32 +98,32 @@ run_first kind p (suc k) =
 module _ (st : State) (b : List ℕ) (c : Bool) {d : Due} {r : Result Plan Stop} (e : d ≡ next_due st)
     (h : r ≡ judged_of st.kind st.plan st.passed d b c)
   where
-  judged : r ≡ plan_behind (turn_of st b c) st.kind st.plan (next_due st).run (take (next_due st).length b)
-  unfolding judged_of
-  judged = h ∙ ap (λ (x : Due). judged_of st.kind st.plan st.passed x b c) e
+    judged : r ≡ plan_behind (turn_of st b c) st.kind st.plan (next_due st).run (take (next_due st).length b)
+    unfolding judged_of
+    judged = h ∙ ap (λ (x : Due). judged_of st.kind st.plan st.passed x b c) e
 
-  -- the walk stops where the turn does
-  pub halts : {x : Stop} → r ≡ Err x → turn_of st b c ≡ Err x
-  halts {x} q = go (turn_of st b c) refl (sym judged ∙ q)
-    where
-      go : (t : Turn) → turn_of st b c ≡ t → plan_behind t st.kind st.plan (next_due st).run (take (next_due st).length b) ≡ Err x
-          → turn_of st b c ≡ Err x
-      go (Ok u) t w = let z : ◌≡◌ {A = ℕ} 0 1 = cc in absurd (omega arith)
-      go (Err y) t w = let z : y ≡ x = cc in t ∙ ap (λ (s : Stop). Err s) z
+    -- the walk stops where the turn does
+    pub halts : {x : Stop} → r ≡ Err x → turn_of st b c ≡ Err x
+    halts {x} q = go (turn_of st b c) refl (sym judged ∙ q)
+      where
+        go : (t : Turn) → turn_of st b c ≡ t → plan_behind t st.kind st.plan (next_due st).run (take (next_due st).length b) ≡ Err x
+            → turn_of st b c ≡ Err x
+        go (Ok u) t w = let z : ◌≡◌ {A = ℕ} 0 1 = cc in absurd (omega arith)
+        go (Err y) t w = let z : y ≡ x = cc in t ∙ ap (λ (s : Stop). Err s) z
 
-  -- and else it passes, with the plan that is behind the record
-  module _ {q : Plan} (k : r ≡ Ok q) where
-    behind_is : (t : Turn) → turn_of st b c ≡ t → plan_behind t st.kind st.plan (next_due st).run (take (next_due st).length b) ≡ Ok q
-        → (turn_of st b c ≡ Ok tt) × (q ≡ pick (eqb (next_due st).run 0) (plan_of st.kind (take (next_due st).length b)) st.plan)
-    behind_is (Ok u) t w = (t, cc)
-    behind_is (Err y) t w = let z : ◌≡◌ {A = ℕ} 0 1 = cc in absurd (omega arith)
+    -- and else it passes, with the plan that is behind the record
+    module _ {q : Plan} (k : r ≡ Ok q) where
+      behind_is : (t : Turn) → turn_of st b c ≡ t → plan_behind t st.kind st.plan (next_due st).run (take (next_due st).length b) ≡ Ok q
+          → (turn_of st b c ≡ Ok tt) × (q ≡ pick (eqb (next_due st).run 0) (plan_of st.kind (take (next_due st).length b)) st.plan)
+      behind_is (Ok u) t w = (t, cc)
+      behind_is (Err y) t w = let z : ◌≡◌ {A = ℕ} 0 1 = cc in absurd (omega arith)
 
-    pub passes : turn_of st b c ≡ Ok tt
-    passes = (behind_is (turn_of st b c) refl (sym judged ∙ k)).0
+      pub passes : turn_of st b c ≡ Ok tt
+      passes = (behind_is (turn_of st b c) refl (sym judged ∙ k)).0
 
-    pub next_is : next_with st q ≡ next_of st b
-    unfolding next_of
-    next_is =
-        ap (next_with st)
-        ((behind_is (turn_of st b c) refl (sym judged ∙ k)).1
-        ∙ ap (λ (x : Bool). pick x (plan_of st.kind (take (next_due st).length b)) st.plan) (run_first st.kind st.plan st.passed))
+      pub next_is : next_with st q ≡ next_of st b
+      unfolding next_of
+      next_is =
+          ap (next_with st)
+          ((behind_is (turn_of st b c) refl (sym judged ∙ k)).1
+          ∙ ap (λ (x : Bool). pick x (plan_of st.kind (take (next_due st).length b)) st.plan) (run_first st.kind st.plan st.passed))

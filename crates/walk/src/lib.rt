@@ -30,6 +30,7 @@ pub struct Walked {
 }
 
 // A bad state's refusal.
+#[tactic(auto, unfolding(crate::specs::Walk::bad_stop))]
 fn bad_stop() -> Stop
     ensures { result ≡ bad_stop }
 {
@@ -41,42 +42,40 @@ impl State {
     pub fn none() -> State
         ensures { result ≡ fresh 0 }
     {
-        let p = plan::zero();
         State {
             kind: 0,
             passed: 0,
-            plan: p,
+            plan: plan::zero(),
         }
     }
 
     // A walk over a file of that kind is begun: its fresh state, or refusal 1 for a kind that there is
     // not. It does not look at the state it is called on.
+    #[tactic(auto, unfolding(crate::specs::Walk::begin_of))]
     pub fn begin(self, kind: u64) -> Result<State, Refusal>
         ensures { result ≡ begin_of kind }
     {
         if words::within(1, kind, 4) {
-            let mut st = State::none();
-            st.kind = kind;
-            return Ok(st);
+            return Ok(State {
+                kind,
+                ..State::none()
+            });
         }
         Err(words::bare(1))
     }
 
     // The state rule.
+    #[tactic(auto, unfolding(crate::specs::State::good_state))]
     fn good(self) -> bool
         ensures { result ≡ good_state self }
     {
-        let kind = self.kind;
-        let k = self.passed;
-        let p = self.plan;
-        let known = words::within(1, kind, 4);
-        if k == 0 {
-            return words::both(known, allowed::is_zero(p));
+        if !words::within(1, self.kind, 4) {
+            return false;
         }
-        if allowed::good(kind, p) {
-            return words::both(known, k <= plan::total(kind, p));
+        if self.passed == 0 {
+            return allowed::is_zero(self.plan);
         }
-        false
+        allowed::good(self.kind, self.plan) && self.passed <= plan::total(self.kind, self.plan)
     }
 
     // The state behind the next record, which has passed and left that plan.
@@ -97,29 +96,22 @@ impl State {
         requires { good_state self ≡ true }
         ensures { Ahead self b.now most result }
     {
-        let k = self.passed;
+        if self.kind != plan::IMAGE || self.passed == 0 {
+            return 0;
+        }
         let p = self.plan;
-        if self.kind != plan::IMAGE {
-            return 0;
-        }
-        if k == 0 {
-            return 0;
-        }
-        let left = p.n + 1 - k;
-        if left < most {
-            return ahead::lines_ahead(p.sort, p.w, p.l, k, left, b);
-        }
-        ahead::lines_ahead(p.sort, p.w, p.l, k, most, b)
+        let left = p.n + 1 - self.passed;
+        ahead::lines_ahead(p.sort, p.w, p.l, self.passed, left.min(most), b)
     }
 
     // The place in the file of the next record's first byte: what a caller hands over begins there.
     // 0 for a bad state.
+    #[tactic(auto, unfolding(crate::specs::State::start_of))]
     pub fn start(self) -> u64
         ensures { result ≡ start_of self }
     {
         if self.good() {
-            let p = self.plan;
-            return plan::due_of(self.kind, p, self.passed).start;
+            return plan::due_of(self.kind, self.plan, self.passed).start;
         }
         0
     }
@@ -139,11 +131,11 @@ impl State {
         }
         let mut n: u64 = 0;
         let mut at: usize = 0;
+        // kept: a turn passes a record and the lines behind it at once, so the count moves by more than one.
         while n < budget {
             let rest = &bytes[at..];
-            let p = st.plan;
-            let due = plan::due_of(st.kind, p, st.passed);
-            let behind = match turns::judge(st.kind, p, st.passed, due, rest, closed) {
+            let due = plan::due_of(st.kind, st.plan, st.passed);
+            let behind = match turns::judge(st.kind, st.plan, st.passed, due, rest, closed) {
                 Ok(plan) => plan,
                 Err(stop) => {
                     return Walked {
@@ -156,9 +148,8 @@ impl State {
             at += due.length as usize;
             st = st.next(behind);
             n += 1;
-            let long = st.plan.l;
             let c = st.ahead(&bytes[at..], budget - n);
-            at += (c * long) as usize;
+            at += (c * st.plan.l) as usize;
             st.passed += c;
             n += c;
         }

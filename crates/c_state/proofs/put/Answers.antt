@@ -1,5 +1,5 @@
 -- Three numbers, then the pairs, then six: the array so far is the numbers written, then the old ones behind them.
-use Prim.Native.Nat.{ℕ, ◌+◌, ◌-◌, ◌*◌}
+use Prim.Native.Nat.{ℕ, ◌+◌, ◌*◌}
 use mathlib.Core.Path.{◌≡◌, refl, subst}
 use native.Mathlib.Omega.{arith}
 use Rattle.plan.specs.Tables.{rows}

@@ -1,5 +1,5 @@
 -- The closed walk's refusal, or the plan that it has; a walk of a known kind is begun.
-use mathlib.Core.Path.{◌≡◌, sym, ap, ◌∙◌}
+use mathlib.Core.Path.{sym, ap, ◌∙◌}
 use Rattle.walk.proofs.BegunLaws.{begun_walks, not_refused}
 use Rattle.card_build.specs.Build.{named_by}
 use Rattle.card_build.proofs.AnswerLaws.{named_plan, named_refused}

@@ -1,32 +1,20 @@
 -- The fields from i on have the first fault of all, since each field read was a number; what was read so far is what its field says.
 use Prim.Native.Nat.{ℕ}
-use mathlib.Core.Path.{◌≡◌, refl, sym, ap, ◌∙◌}
+use mathlib.Core.Path.{◌≡◌, sym, ap, ◌∙◌}
 use native.Mathlib.Omega.{arith}
 use borrow.Author.Rules.{rules}
 use lib.ListN.{length-set}
 use mir.Syntax.{w64}
 use mir.Val.{to_z, of_z}
-use Rattle.std.specs.Prelude.{Ok, Err}
+use Rattle.std.specs.Prelude.{Ok}
 use Rattle.decimal.specs.declared.Form.TheVariants.{I4}
 use Rattle.verdicts.specs.Tests.{whole_of}
-use Rattle.verdicts.specs.Numbers.{number, row_tests, numbers_tests}
-use Rattle.verdicts.proofs.TestLaws.{rows_end, named_fault, named_fine}
+use Rattle.verdicts.specs.Numbers.{number, row_tests}
+use Rattle.verdicts.proofs.TestLaws.{rows_end, named_fine}
 use Rattle.verdicts.proofs.FillLaws.{fill_more, fill_done}
 use Rattle.image.specs.Image.{image_numbers, image_row, row_number, numbers_of}
 use Rattle.image.proofs.ImageLaws as laws
 use Rattle.image.proofs.read_numbers.Goals as goal
-
-pub loop-i-init : goal.loop-i-init
-unfolding numbers_tests
-loop-i-init c = record { size = refl; fine = refl; values = λ k h. absurd (omega arith) }
-
-pub returns-in_err-number_at : goal.returns-in_err-number_at
-unfolding numbers_of
-returns-in_err-number_at c =
-    let l = c.loop-i in
-    let e : c.from_residual.result ≡ Err c.in_err-number_at.field-0.0 = search rules in
-    e ∙ named_fault _ (l.invariant.fine
-    ∙ laws.row_fault c.args.sort c.args.r.now l.i c.loop-i-test.true (sym c.number_at.ensures ∙ c.in_err-number_at.was))
 
 pub loop-i-preserved : goal.loop-i-preserved
 loop-i-preserved c =

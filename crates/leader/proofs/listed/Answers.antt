@@ -1,6 +1,6 @@
 -- The fields from i on have the first fault of the fields from the first: each field passed had none.
 use Prim.Native.Nat.{ℕ}
-use mathlib.Core.Path.{◌≡◌, refl, sym, ap, ◌∙◌}
+use mathlib.Core.Path.{◌≡◌, sym, ap, ◌∙◌}
 use mathlib.Core.List.{List}
 use borrow.Author.Rules.{rules}
 use Rattle.std.specs.Prelude.{Err}
@@ -10,7 +10,7 @@ use Rattle.fields.specs.Listed.{row, table, listed}
 use Rattle.fields.specs.declared.Listed.{Listed}
 use Rattle.verdicts.specs.Tests.{first_fault, fault_of}
 use Rattle.verdicts.specs.Numbers.{at}
-use Rattle.leader.specs.Leader.{listed_tests, fields_tests}
+use Rattle.leader.specs.Leader.{listed_tests}
 use Rattle.verdicts.proofs.FieldLaws.{at_unnamed, readable_fault}
 use Rattle.verdicts.proofs.TestLaws as laws
 use Rattle.leader.proofs.listed.Goals as goal
@@ -18,10 +18,6 @@ use Rattle.leader.proofs.listed.Goals as goal
 -- the verdict on listed field i is the first fault of its test
 field_fault : (r : List ℕ) (x : Listed) → first_fault (listed_tests r x) ≡ fault_of (at r x.first x.form)
 field_fault r x = sym (readable_fault (place_of x.first) (at r x.first x.form) (at_unnamed r x.first x.form))
-
-pub loop-i-init : goal.loop-i-init
-unfolding fields_tests
-loop-i-init c = refl
 
 pub returns-in_err-fault : goal.returns-in_err-fault
 unfolding listed

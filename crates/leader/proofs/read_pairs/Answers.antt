@@ -1,6 +1,6 @@
 -- The pairs from i on have the first fault of all, since each pair read was fine; each row of the plan whose pair was read has that pair's numbers.
 use Prim.Native.Nat.{ℕ, ◌+◌}
-use mathlib.Core.Path.{◌≡◌, refl, sym, ap, ap₂, ◌∙◌, subst}
+use mathlib.Core.Path.{◌≡◌, sym, ap, ap₂, ◌∙◌, subst}
 use mathlib.Core.List.{List}
 use native.Mathlib.Omega.{arith}
 use borrow.Author.Rules.{rules}
@@ -9,21 +9,12 @@ use Rattle.std.specs.Prelude.{Some, None, Ok, Err}
 use Rattle.decimal.specs.declared.Form.TheVariants.{I4}
 use Rattle.verdicts.specs.Tests.{first_fault}
 use Rattle.verdicts.proofs.TestLaws.{row_found, row_passed, rows_end, named_fault, named_fine, fault_found, fine_found}
-use Rattle.leader.specs.Leader.{pair, pairs, pair_row, pair_tests, count_at, length_at, counts_of, lengths_of, pair_of, pairs_of}
+use Rattle.leader.specs.Leader.{pair, pairs, pair_row, pair_tests, count_at, length_at, counts_of, lengths_of, pair_of}
 use Rattle.leader.specs.declared.Held.{Held}
 use Rattle.leader.specs.declared.Pair.{Pair}
 use Rattle.leader.proofs.FillLaws as laws
 use Rattle.leader.proofs.read_pairs.Goals as goal
 use Rattle.leader.proofs.read_pairs.Goals.{in-Some, in_default}
-
-pub loop-i-init : goal.loop-i-init
-loop-i-init c = record {
-  counted = refl;
-  measured = refl;
-  fine = refl;
-  counts = λ j l h. absurd (omega arith);
-  lengths = λ j l h. absurd (omega arith);
-}
 
 -- what was read of pair i
 module _ (r : List ℕ) (i : ℕ) where
@@ -37,7 +28,7 @@ module _ (r : List ℕ) (i : ℕ) where
   good_pair q = fine_found _ (first_fault (pair_tests r (pair_row i))) q
 
 pub returns-in_err-y : goal.returns-in_err-y
-unfolding pair_row pairs_of
+unfolding pair_row
 returns-in_err-y c =
     let r = c.args.r.now in
     let l = c.loop-i in
@@ -82,7 +73,7 @@ loop-i-preserved c =
     ]
 
 pub returns : goal.returns
-unfolding counts_of lengths_of pairs_of
+unfolding counts_of lengths_of
 returns c =
     let r = c.args.r.now in
     let l = c.loop-i in

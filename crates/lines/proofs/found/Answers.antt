@@ -1,5 +1,5 @@
 -- Tests that all hold find nothing; else a fault of the header is the answer, and where there is none, the body is judged: the definition's two cases.
-use Rattle.std.proofs.Common.{◌≡◌, true, sym, ap₂, ◌∙◌, rules}
+use Rattle.std.proofs.Common.{◌≡◌, true, sym, rules}
 use Rattle.words.specs.Tests.{both_of}
 use Rattle.verdicts.specs.Tests.{all_hold}
 use Rattle.headers.specs.Header.{header_tests}

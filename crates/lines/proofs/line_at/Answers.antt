@@ -1,12 +1,9 @@
 -- Too few bytes wait; a fault is the refusal of this record, near its start; else the record's pixels: the definition's three cases.
-use Prim.Native.Nat.{ℕ}
-use mathlib.Core.List.{List}
 use native.Mathlib.Omega.{arith}
-use Rattle.verdicts.specs.Tests.{Verdict}
 use Rattle.turns.specs.Turn.{Near}
-use Rattle.lines.specs.View.{line_at, found_in, on_verdict, shown_of, record_at}
+use Rattle.lines.specs.View.{line_at}
 use borrow.Author.Rules.{rules}
-use mathlib.Core.Path.{sym, ap, ◌∙◌, subst}
+use mathlib.Core.Path.{sym, subst}
 use Rattle.lines.proofs.ViewLaws as laws
 use Rattle.lines.proofs.line_at.Goals as goal
 

@@ -1,15 +1,14 @@
 -- The numbers of the definition, each read where it stands.
-use Prim.Native.Nat.{ℕ, ◌+◌, ◌*◌, ◌≤◌}
+use Prim.Native.Nat.{ℕ, ◌≤◌}
 use borrow.Author.Rules.{rules}
-use mathlib.Core.Path.{◌≡◌, ap, ap₂, ◌∙◌}
+use mathlib.Core.Path.{◌≡◌, ap}
 use native.Mathlib.Omega.{arith}
-use Rattle.words.specs.Words.{four_at, place_of}
+use Rattle.words.specs.Words.{place_of}
 use native.Mathlib.Nat.{mul-le-mul}
 use Rattle.plan.specs.Tables.{sort_of}
-use Rattle.plan.specs.Plan.{group_of}
 use Rattle.plan.specs.declared.Sort.{Sort}
 use Rattle.plan.proofs.CodeLaws.{sort_modest}
-use Rattle.lines.specs.View.{shown_view, left_of, data_of, pixels_from, shown_of}
+use Rattle.lines.specs.View.{shown_of}
 use Rattle.lines.proofs.shown_at.Goals as goal
 
 modest : (i : ℕ) (s : Sort) → s ≡ sort_of i → s.group ≤ 8

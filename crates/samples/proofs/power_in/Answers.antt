@@ -11,7 +11,7 @@ returns c =
     let args = c.args in
     let sort : is_complex args.sort ≡ true = search rules in
     c.ok_or.ensures.value
-    ∙ ap (λ (r : Refusal). ok_or c.power_of.result (Refused r)) c.bare-3.ensures
+    ∙ ap (λ (r : Refusal). ok_or c.power_of.result (Refused r)) c.bare-2.ensures
     ∙ ap on_power c.power_of.ensures
     ∙ laws.power_there args.v args.sort args.bytes.now args.index _ c.in_ok-shown.was sort c.if-index-shown.false _ c.place_of-at.ensures.0 _
     c.patterns_there-p.ensures

@@ -42,7 +42,7 @@ returns-in_err-passed c =
     let a = c.args in
     let p = err_from_is_err_and c.from_residual.result c.from_residual.ensures.1 in
     let h = laws.header_halts a.kind a.p a.k a.d a.b.now a.closed (omega (arith, c.total.ensures.0)) c.if-len-lt12.false
-        _ _ (sym c.header.ensures) (sym c.passed.ensures ∙ c.in_err-passed.was) in
+    _ _ (sym c.header.ensures) (sym c.passed.ensures ∙ c.in_err-passed.was) in
     rw (p.1, p.2)
     (record { value = laws.halted_is a.kind a.p a.k a.d a.b.now a.closed h; k_le_records_most = tt })
 

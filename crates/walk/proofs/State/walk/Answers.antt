@@ -13,12 +13,10 @@ use Rattle.plan.specs.declared.Due.{Due}
 use Rattle.plan.specs.declared.Plan.{Plan}
 use Rattle.plan.specs.Plan.{records_most}
 use Rattle.std.proofs.lemmas.Result.{IfOk-at_ok}
-use lib.ListN.{length}
 use native.Mathlib.Nat.{sub-zero}
 use native.Mathlib.Omega.{arith}
-use mathlib.Core.Bool.{true}
 use mathlib.Core.Path.{sym, ap, ◌∙◌}
-use Prim.Native.Nat.{ℕ, ◌+◌, ◌-◌, ◌*◌, ◌≤◌}
+use Prim.Native.Nat.{ℕ, ◌+◌, ◌*◌, ◌≤◌}
 use Rattle.walk.proofs.State.walk.Goals as goal
 
 pub returns-then-not-good : goal.returns-then-not-good
