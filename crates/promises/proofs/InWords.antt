@@ -1,5 +1,5 @@
 -- The promises in the words of document 01: what is shown of the walk, the line view, the row copy and the set check, said of the answer's word and
--- numbers. Each word stands for one case of its enum, so each statement is the one over the cases.
+-- numbers. Each word stands for one case of its answer, so each statement is the one over the cases.
 use Prim.Native.Nat.{ℕ, ◌+◌, ◌≤◌, ◌<◌}
 use mathlib.Core.Path.{◌≡◌, refl, ap, ap₂, ◌∙◌}
 use mathlib.Core.Logic.{◌↔◌}
