@@ -7,4 +7,5 @@ use Rattle.plan.specs.Plan.{slots_good}
 use Rattle.allowed.proofs.slots_good.Given as goal
 
 abbrev pub invariant-loop-i : goal.invariant-loop-i
-invariant-loop-i l = (length l.counts ≡ rows) × (length l.lengths ≡ rows) × (slots_good 0 rows l.counts l.lengths ≡ slots_good l.i (rows - l.i) l.counts l.lengths)
+invariant-loop-i l = (length l.counts ≡ rows) × (length l.lengths ≡ rows)
+    × (slots_good 0 rows l.counts l.lengths ≡ slots_good l.i (rows - l.i) l.counts l.lengths)
