@@ -1,26 +1,24 @@
 -- To ask for a sample, its power or a complex row is refused exactly where `Questions` says so: each by the cases of its own definition, over what is shown of
 -- the line view; and a refused row stays.
 use Prim.Native.Nat.{ℕ, ◌+◌, ◌*◌, ◌≤◌, ◌<◌}
-use mathlib.Core.Path.{◌≡◌, refl, sym, ap, ap₂, ◌∙◌, subst}
+use mathlib.Core.Path.{◌≡◌, refl, sym, ap, ap₂, ◌∙◌}
 use mathlib.Core.Logic.{◌↔◌, ◌⊎◌, inl, inr}
 use mathlib.Core.List.{List, ◌++◌}
 use mathlib.Core.Bool.{Bool, true, false}
 use native.Mathlib.Omega.{arith}
 use lib.Dec.{ltb, eqb}
 use lib.ListN.{length, drop}
-use borrow.Author.Tests.{ltb-true, ltb-false, lt-ltb, le-ltb, eqb-true, eqb-false, eq-eqb, ne_eqb}
+use borrow.Author.Tests.{ltb-true, lt-ltb, le-ltb, eqb-true, eqb-false, eq-eqb, ne_eqb}
 use Rattle.words.specs.Tests.{pick}
 use Rattle.words.specs.Words.{four_at}
 use Rattle.words.specs.Answer.{bare_refusal, refused_as}
 use Rattle.words.specs.declared.Refusal.{Refusal}
 use Rattle.floats.specs.Floats.{float_of, all_finite}
-use Rattle.floats.specs.Floats as floats
 use Rattle.floats.proofs.Laws.{why_none}
 use Rattle.plan.specs.declared.Plan.{Plan}
 use Rattle.std.specs.Prelude.{Ok, Err}
 use Rattle.lines.specs.View.{View, view_of, sort_seen}
 use Rattle.lines.specs.Said.{unshown_as}
-use Rattle.lines.specs.declared.Shown.{Shown}
 use Rattle.lines.specs.declared.Unshown.{Unshown}
 use Rattle.lines.specs.declared.Unshown.TheVariants.{Refused}
 use Rattle.copies.specs.Row.{Copied}

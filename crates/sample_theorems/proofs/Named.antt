@@ -1,19 +1,19 @@
 -- A sample of a line that stands there is the one that the rules name: a count (`sample_named`), or two patterns, each the four bytes at its place, high byte
 -- first (`complex_named`); its power is that of these patterns (`power_is`), and the complex row has them one after the other (`row_named`).
-use Prim.Native.Nat.{ℕ, suc, ◌+◌, ◌-◌, ◌*◌, ◌≤◌, ◌<◌}
-use mathlib.Core.Path.{◌≡◌, refl, sym, ap, ap₂, ◌∙◌, subst}
+use Prim.Native.Nat.{ℕ, ◌+◌, ◌-◌, ◌*◌, ◌≤◌, ◌<◌}
+use mathlib.Core.Path.{◌≡◌, ap, ap₂, ◌∙◌}
 use mathlib.Core.List.{List, ◌++◌}
-use mathlib.Core.Bool.{true, false}
+use mathlib.Core.Bool.{true}
 use native.Mathlib.Omega.{arith}
 use lib.Ieee.{binary32, to_bits}
 use lib.ListN.{length, get_or, drop, length-append, length-drop, get_or-append}
 use lib.Seq.{get_or-drop, get_or-append-add}
-use borrow.Author.Tests.{lt-ltb, le-ltb, eq-eqb}
-use Rattle.words.specs.Words.{two_at, four_at}
+use borrow.Author.Tests.{lt-ltb, le-ltb}
+use Rattle.words.specs.Words.{four_at}
 use Rattle.floats.specs.Floats as floats
 use Rattle.plan.specs.declared.Plan.{Plan}
 use Rattle.std.specs.Prelude.{Ok}
-use Rattle.lines.specs.View.{View, view_of, sort_seen}
+use Rattle.lines.specs.View.{View, sort_seen}
 use Rattle.samples.specs.Samples.{floated, on_power, patterned_by, powered_by, sampled_by}
 use Rattle.samples.specs.Asked.{pattern_of, sample_of, power_of}
 use Rattle.samples.specs.declared.Sample.TheVariants.{Count, Complex}
