@@ -33,14 +33,6 @@ pub fn four(out: &mut [u8], at: usize, n: u64)
     requires { at + 4 ≤ length out.old }
     ensures { out.new ≡ written out.old at (four_of n) }
 {
-    text(
-        out,
-        at,
-        &[
-            (n / 256 / 256 / 256 % 256) as u8,
-            (n / 256 / 256 % 256) as u8,
-            (n / 256 % 256) as u8,
-            (n % 256) as u8,
-        ],
-    );
+    let low = (n % 4294967296) as u32;
+    text(out, at, &low.to_be_bytes());
 }
