@@ -1,7 +1,7 @@
 #!/usr/bin/env python3
 """What the object code must have that no proof speaks of, in the library that scripts/lib made.
 
-The row copies swap in vectors (docs/SPEED.md): a small edit of `copies::pair` or `copies::sample`, or of `complex_rows::quad`
+The row copies swap in vectors (docs/SPEED.md): a small edit of `copies::write` or `copies::sample`, or of `complex_rows::write`
 or `complex_rows::number`, loses it; the copy is right still, and takes several times as long. And no instruction multiplies and adds at once: a power is two products and a sum,
 each rounded once (document 02, No. 2), where a fused multiply-add rounds once for both; a compiler that contracts them
 gives other bits (tests/boundary/differential/powers.py has some)."""

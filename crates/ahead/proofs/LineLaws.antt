@@ -9,6 +9,7 @@ use native.Mathlib.Omega.{arith}
 use native.Mathlib.Nat.{zero-mul, suc-mul}
 use lib.ListN.{length, take, drop, length-drop}
 use lib.Seq.{drop-drop}
+use Rattle.std.specs.Prelude.{Ok}
 use lib.Dec.{ltb, eqb}
 use borrow.Author.Tests.{lt-ltb, le-ltb, ltb-true, ltb-false, eq-eqb, eqb-true, eqb-false}
 use Rattle.words.specs.Tests.{both_of}
@@ -19,8 +20,7 @@ use Rattle.plan.specs.Tables.{sort_of}
 use Rattle.plan.specs.Plan.{line_codes}
 use Rattle.plan.proofs.CodeLaws.{sort_code}
 use Rattle.verdicts.specs.Tests.{first_fault, all_hold}
-use Rattle.verdicts.specs.declared.Verdict.TheVariants.{Fine}
-use Rattle.verdicts.proofs.Holding.{all_fine}
+use Rattle.verdicts.proofs.Holding.{all_fine, all_three}
 use Rattle.image.specs.Image.{line_tests}
 use Rattle.headers.specs.Header.{codes_are, header_tests, header_of}
 use Rattle.ahead.specs.Lines.{codes_number, line_fine, lines_fine}
@@ -70,12 +70,20 @@ codes_held b sort h₄ h₅ h₆ h₇ = go (eqb (four_at b 4) (codes_number sort
         (both_make _ _ (eq-eqb (byte_at b 6) 18 (omega (arith, n, m, k, h₄, h₅, h₆, h₇))) (eq-eqb (byte_at b 7) 20 (omega (arith, n, m, k, h₄, h₅, h₆, h₇)))))
     go false e = alike coded refl e
 
+-- a header's tests, with the codes as one number
+pub header_held : (b : List ℕ) (sort n l : ℕ) → ((i : ℕ) → byte_at b i < 256)
+    → both_of (eqb (four_at b 0) n) (both_of (eqb (four_at b 4) (codes_number sort)) (eqb (four_at b 8) l)) ≡ all_hold (header_tests n (line_codes sort) l b)
+unfolding header_tests
+header_held b sort n l h =
+    ap (λ (t : Bool). both_of (eqb (four_at b 0) n) (both_of t (eqb (four_at b 8) l))) (codes_held b sort (h 4) (h 5) (h 6) (h 7))
+    ∙ all_three _ _ _
+
 -- ---- line k's record begins these bytes, is whole, and holds what it must
 
 pub record LineFine (sort w l k : ℕ) (b : List ℕ) : Type 0 where
   pub whole : l ≤ length b
-  pub head : header_of (k + 1) (line_codes sort) l b ≡ Fine
-  pub body : first_fault (line_tests w k (take l b)) ≡ Fine
+  pub head : header_of (k + 1) (line_codes sort) l b ≡ Ok tt
+  pub body : first_fault (line_tests w k (take l b)) ≡ Ok tt
 
 -- so do the c lines from line k on, end to end
 abbrev pub LinesFine : ℕ → ℕ → ℕ → ℕ → ℕ → List ℕ → Type 0

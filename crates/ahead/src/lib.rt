@@ -13,8 +13,7 @@ ghost use Rattle.ahead.specs.Lines.{codes_number, line_fine, lines_fine};
 fn codes_of(sort: u64) -> u64
     ensures { result ≡ codes_number sort }
 {
-    let row = plan::sort_at(sort);
-    (50 * 256 + row.code) * 65536 + (18 * 256 + 20)
+    (50 * 256 + plan::sort_at(sort).code) * 65536 + (18 * 256 + 20)
 }
 
 // A line's header on bytes that have come. The codes are compared at once: a sort's are known only as the
@@ -23,29 +22,22 @@ fn header_fine(sort: u64, codes: u64, l: u64, k: u64, b: &[u8]) -> bool
     requires { (codes ≡ codes_number sort) × (k ≤ records_most) × (12 ≤ length b.now) }
     ensures { result ≡ all_hold (header_tests (k + 1) (line_codes sort) l b.now) }
 {
-    let number = words::is(words::four_there(b, 0), k + 1);
-    let coded = words::is(words::four_there(b, 4), codes);
-    let length = words::is(words::four_there(b, 8), l);
-    words::both(number, words::both(coded, length))
+    let number = words::four_there(b, 0);
+    let coded = words::four_there(b, 4);
+    let length = words::four_there(b, 8);
+    number == k + 1 && coded == codes && length == l
 }
 
 // Line k's record, of that sort, begins these bytes, is whole, has room for a line's numbers, and holds what it must.
+#[tactic(auto, unfolding(crate::specs::Lines::line_fine))]
 fn line_fine(sort: u64, codes: u64, w: u64, l: u64, k: u64, b: &[u8]) -> bool
     requires { (codes ≡ codes_number sort) × (k ≤ records_most) }
     ensures { result ≡ line_fine sort w l k b.now }
 {
-    if (b.len() as u64) < l {
+    if (b.len() as u64) < l || l < 32 {
         return false;
     }
-    if l < 32 {
-        return false;
-    }
-    let due = l as usize;
-    let r = &b[..due];
-    words::both(
-        header_fine(sort, codes, l, k, b),
-        image::line_there(w, k, r),
-    )
+    header_fine(sort, codes, l, k, b) && image::line_there(w, k, &b[..l as usize])
 }
 
 // How many lines from line k on pass one after the other, at most that many.
@@ -54,14 +46,12 @@ pub fn lines_ahead(sort: u64, w: u64, l: u64, k: u64, most: u64, b: &[u8]) -> u6
     ensures { result ≡ lines_fine sort w l k most b.now }
 {
     let codes = codes_of(sort);
-    let mut c: u64 = 0;
     let mut at: usize = 0;
-    while c < most {
+    for c in 0..most {
         if !line_fine(sort, codes, w, l, k + c, &b[at..]) {
             return c;
         }
         at += l as usize;
-        c += 1;
     }
-    c
+    most
 }

@@ -1,26 +1,27 @@
 -- `first_good`: a first record that passes names a plan that the rules allow; each test of its body that holds is a rule of the plan.
 use Prim.Native.Nat.{ℕ, zero, suc, ◌+◌, ◌≤◌, ◌<◌}
-use mathlib.Core.Path.{◌≡◌, refl, subst}
+use mathlib.Core.Path.{◌≡◌, refl, ap, subst}
 use mathlib.Core.List.{List}
 use mathlib.Core.Bool.{Bool, true, false}
 use native.Mathlib.Omega.{arith}
 use lib.Dec.{eqb}
 use lib.ListN.{get_or}
 use borrow.Author.Tests.{eqb-true, eqb-false, eq-eqb}
+use Rattle.std.specs.Prelude.{Some, Ok}
 use Rattle.words.specs.Tests.{pick, within_of}
 use Rattle.words.proofs.Laws.{true_within}
 use Rattle.decimal.specs.declared.Form.TheVariants.{I4, I6, I8}
 use Rattle.plan.specs.Tables.{rows, slot_of, last_sort}
 use Rattle.plan.specs.Plan.{plan_good, volume_good, leader_good, image_good, zero_plan?, all_zero, slot_good, slots_good}
 use Rattle.plan.specs.declared.Plan.{Plan}
+use Rattle.plan.specs.declared.Slot.{Slot}
 use Rattle.verdicts.specs.Numbers.{number_at, numbers_tests}
 use Rattle.volume.specs.Volume.{volume_numbers, volume_tests, volume_record}
-use Rattle.leader.specs.Leader.{pair, pairs, pair_row, admitted, admitted_pair, count_at}
+use Rattle.leader.specs.Leader.{pair, pairs, pair_row, admitted, admitted_pair, slot_in, count_at}
 use Rattle.leader.specs.Leader.{length_at, pair_tests, leader_tests, leader_record, counts_of, lengths_of}
 use Rattle.image.specs.Image.{sort_in, image_numbers, agree_tests, agreements, image_tests, image_record}
 use Rattle.bodies.specs.Bodies.{body_tests, body_of}
 use Rattle.bodies.specs.Named.{plan_of}
-use Rattle.verdicts.specs.declared.Verdict.TheVariants.{Fine}
 use Rattle.verdicts.proofs.FillLaws.{map_at}
 use Rattle.verdicts.proofs.Holding.{Holds, fine_holds, holds_split, each_holds, row_holds}
 use Rattle.image.proofs.ImageLaws.{bounded, sort_in_lem}
@@ -58,14 +59,16 @@ module _ (r : List ℕ) (i : ℕ) (l : i < rows) where
   module _ (h : Holds (leader_tests r)) where
     of_pair : Holds (pair_tests r (pair_row (admitted_pair i)))
     unfolding leader_tests pair_row
-    of_pair = each_holds (pair_tests r) (pair 0 I4 0) pairs h.1 (admitted_pair i) (admitted_bound i l)
+    of_pair = each_holds (pair_tests r) (pair 0 I4 (Some 0)) pairs h.1 (admitted_pair i) (admitted_bound i l)
 
     row_good : slot_good i (get_or (counts_of r) i 0) (get_or (lengths_of r) i 0) ≡ true
     row_good =
         let x = pair_row (admitted_pair i) in
+        let s : slot_in x.row ≡ slot_of i = ap slot_in (admitted_row i l) in
+        let c = subst (λ (s : Slot). (s.least ≤ count_at r x) × (count_at r x ≤ s.most)) s (count_in_lem r x of_pair) in
         rw (count_of, length_of)
-        (subst (λ (k : ℕ). slot_good k (count_at r x) (length_at r x) ≡ true) (admitted_row i l)
-        (slot_good_lem x.row (count_at r x) (length_at r x) (count_in_lem r x of_pair) (length_none r x) (length_in r x of_pair)))
+        (slot_good_lem i (count_at r x) (length_at r x) c (length_none r x)
+        (λ n. subst (λ (s : Slot). (s.shortest ≤ length_at r x) × (length_at r x ≤ s.longest)) s (length_in r x of_pair n)))
 
 -- ---- each kind
 
@@ -98,7 +101,7 @@ trailer_good : (r : List ℕ) → plan_good 4 (plan_of 4 r) ≡ true
 unfolding plan_of plan_good zero_plan? all_zero
 trailer_good r = refl
 
-pub first_good : (kind : ℕ) (p : Plan) (r : List ℕ) → 1 ≤ kind → kind ≤ 4 → body_of kind 0 p 0 r ≡ Fine → plan_good kind (plan_of kind r) ≡ true
+pub first_good : (kind : ℕ) (p : Plan) (r : List ℕ) → 1 ≤ kind → kind ≤ 4 → body_of kind 0 p 0 r ≡ Ok tt → plan_good kind (plan_of kind r) ≡ true
 unfolding body_of body_tests volume_record leader_record image_record
 first_good zero p r l h e = absurd (omega arith)
 first_good (suc zero) p r l h e = volume_good_lem r (fine_holds (volume_tests r) e)

@@ -4,9 +4,8 @@ use Rattle.std.specs.Prelude.{ℕ, List, [], ◌∷◌, eqb}
 use Rattle.words.specs.Tests.{pick}
 use Rattle.plan.specs.Plan.{volume, leader, image}
 use Rattle.plan.specs.declared.Plan.{Plan}
-use Rattle.verdicts.specs.Tests.{Test, first_fault}
+use Rattle.verdicts.specs.Tests.{Test, Verdict, first_fault}
 use Rattle.verdicts.specs.Numbers.{first_text}
-use Rattle.verdicts.specs.declared.Verdict.{Verdict}
 use Rattle.volume.specs.Volume.{volume_tests, volume_record}
 use Rattle.leader.specs.Leader.{leader_tests, leader_record}
 use Rattle.image.specs.Image.{image_tests, image_record}

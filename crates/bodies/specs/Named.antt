@@ -1,17 +1,15 @@
 -- The plan's numbers that a first record names, numbers that the kind does not use being 0; and what is found in a record, with the plan behind it. Assumes
 -- nothing.
-use Rattle.std.specs.Prelude.{ℕ, List, eqb, replicate}
+use Rattle.std.specs.Prelude.{ℕ, List, eqb, replicate, Result}
 use Rattle.words.specs.Tests.{pick}
+use Rattle.words.specs.declared.Refusal.{Refusal}
 use Rattle.decimal.specs.declared.Form.TheVariants.{I4, I6, I8}
 use Rattle.plan.specs.Tables.{rows}
 use Rattle.plan.specs.Plan.{volume, leader, image, zero_plan}
 use Rattle.plan.specs.declared.Plan.{Plan}
-use Rattle.verdicts.specs.Tests.{first_fault}
+use Rattle.verdicts.specs.Tests.{first_fault, named_by}
 use Rattle.verdicts.specs.Numbers.{number_at}
-use Rattle.verdicts.specs.declared.Verdict.{Verdict}
-use Rattle.verdicts.specs.declared.Verdict.TheVariants.{Fine, Fault}
 use Rattle.bodies.specs.Bodies.{first_tests, body_of}
-use Rattle.bodies.specs.declared.Found.{Found}
 use Rattle.leader.specs.Leader.{counts_of, lengths_of}
 use Rattle.image.specs.Image.{sort_in}
 
@@ -36,15 +34,10 @@ plan_of kind r =
     })
     zero_plan))
 
--- the plan behind a first record: the one that it names, or none where it is wrong
-abbrev pub plan_by : Verdict → Plan → Plan
-plan_by Fine p = p
-plan_by (Fault n place) p = zero_plan
+-- what is found in a first record of the kind: the plan that it names, or its first fault
+unfoldable pub first_of : ℕ → List ℕ → Result Plan Refusal
+first_of kind r = named_by (first_fault (first_tests kind r)) (plan_of kind r)
 
--- what is found in a first record of the kind
-unfoldable pub first_of : ℕ → List ℕ → Found
-first_of kind r = record { verdict = first_fault (first_tests kind r); plan = plan_by (first_fault (first_tests kind r)) (plan_of kind r) }
-
--- what is found in record k, which is of that run: behind a record that is not the first the plan is as it was
-unfoldable pub found_of : ℕ → ℕ → Plan → ℕ → List ℕ → Found
-found_of kind run p k r = pick (eqb run 0) (first_of kind r) (record { verdict = body_of kind run p k r; plan = p })
+-- what is found in record k, which is of that run: the plan behind it, which behind a record that is not the first is as it was, or its first fault
+unfoldable pub found_of : ℕ → ℕ → Plan → ℕ → List ℕ → Result Plan Refusal
+found_of kind run p k r = pick (eqb run 0) (first_of kind r) (named_by (body_of kind run p k r) p)

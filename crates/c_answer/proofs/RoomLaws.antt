@@ -1,16 +1,16 @@
--- What a call leaves behind where there is room, and where there is none: by the lengths of its arrays.
-use Prim.Native.Nat.{ℕ, ◌≤◌, ◌<◌}
+-- What a call leaves behind where there is room, by the lengths of its arrays.
+use Prim.Native.Nat.{ℕ, ◌≤◌}
 use mathlib.Core.Path.{◌≡◌, sym, ap, ◌∙◌}
 use mathlib.Core.List.{List, ◌++◌}
-use mathlib.Core.Bool.{Bool, true, false}
+use mathlib.Core.Bool.{Bool, true}
 use lib.Dec.{leb}
 use lib.ListN.{length, drop}
-use borrow.Author.Tests.{le-leb, lt-leb}
+use borrow.Author.Tests.{le-leb}
 use Rattle.words.specs.Tests.{pick, both_of}
 use Rattle.words.specs.Answer.{Answer}
-use Rattle.words.proofs.Laws.{both_make, pick_true, pick_false}
+use Rattle.words.proofs.Laws.{both_make, pick_true}
 use Rattle.c_answer.specs.Reply.{five_of, reply_of}
-use Rattle.c_answer.specs.Room.{answered, behind, answer_of}
+use Rattle.c_answer.specs.Room.{behind, answer_of}
 use Rattle.c_answer.specs.declared.Reply.{Reply}
 
 -- two arrays have room, by their lengths
@@ -18,22 +18,7 @@ module _ (a b m n : ℕ) where
   pub room_yes : a ≤ m → b ≤ n → both_of (leb a m) (leb b n) ≡ true
   room_yes h l = both_make _ _ (le-leb a m h) (le-leb b n l)
 
-  pub room_first : m < a → both_of (leb a m) (leb b n) ≡ false
-  room_first h = ap (λ (t : Bool). both_of t (leb b n)) (lt-leb a m h)
-
-  pub room_second : a ≤ m → n < b → both_of (leb a m) (leb b n) ≡ false
-  room_second h l = ap (λ (t : Bool). both_of t (leb b n)) (le-leb a m h) ∙ lt-leb b n l
-
--- what a call answers, and an array behind it
-pub says_no : (b : Bool) → b ≡ false → 0 ≡ answered b
-says_no b h = sym (ap answered h)
-
-pub says_yes : (b : Bool) → b ≡ true → 1 ≡ answered b
-says_yes b h = sym (ap answered h)
-
-pub stays : {A : Type 0} (b : Bool) (new old : A) → b ≡ false → old ≡ pick b new old
-stays b new old h = sym (pick_false b new old h)
-
+-- an array behind a call
 pub turns : {A : Type 0} (b : Bool) (new old x : A) → b ≡ true → x ≡ new → x ≡ pick b new old
 turns b new old x h e = e ∙ sym (pick_true b new old h)
 

@@ -14,16 +14,13 @@ use c_answer::Reply;
 use card_build::Built;
 use cards::Checked;
 
-// How many numbers an answer has.
-const ANSWER: usize = c_answer::NUMBERS;
-
 // What the builder answers.
 fn built_reply(x: Built) -> Reply
     ensures { result ≡ reply_of (built_as x) 0 }
 {
     match x {
-        Built::Bytes(n) => c_answer::brief(10, n, 0),
-        Built::Refused(r) => c_answer::refusal(r, 0),
+        Ok(n) => c_answer::brief(10, n, 0),
+        Err(r) => c_answer::refusal(r, 0),
     }
 }
 
@@ -32,14 +29,14 @@ fn card_reply(x: Checked) -> Reply
     ensures { result ≡ reply_of (checked_as x) 0 }
 {
     match x {
-        Checked::Card(n, k) => Reply {
+        Ok(card) => Reply {
             tag: 11,
-            a: n,
-            b: k,
+            a: card.lines,
+            b: card.entries,
             c: 0,
             count: 0,
         },
-        Checked::Refused(r) => c_answer::refusal(r, 0),
+        Err(r) => c_answer::refusal(r, 0),
     }
 }
 
@@ -49,11 +46,10 @@ pub fn sbg_card_build(image: &[u8], leader: &[u8], card: &mut [u8], answer: &mut
     ensures card_after { card.new ≡ card_behind image.now leader.now card.old answer.old }
     ensures answer_after { answer.new ≡ answer_of (build_says image.now leader.now card.old) answer.old }
 {
-    if answer.len() < ANSWER {
-        return 0;
-    }
-    c_answer::say(built_reply(card_build::build(image, leader, card)), answer);
-    1
+    c_answer::answer_with(
+        answer,
+        &mut || built_reply(card_build::build(image, leader, card)),
+    )
 }
 
 // Judges the bytes as a card.
@@ -61,11 +57,7 @@ pub fn sbg_card(card: &[u8], answer: &mut [u64]) -> u64
     ensures value { result ≡ answered (fits 5 answer.old) }
     ensures answer_after { answer.new ≡ answer_of (checked_as (check_of card.now)) answer.old }
 {
-    if answer.len() < ANSWER {
-        return 0;
-    }
-    c_answer::say(card_reply(cards::check(card)), answer);
-    1
+    c_answer::answer_with(answer, &mut || card_reply(cards::check(card)))
 }
 
 // The numbers of a card; a short list is refusal 37.
@@ -74,9 +66,5 @@ pub fn sbg_card_numbers(card: &[u8], numbers: &mut [u64], answer: &mut [u64]) ->
     ensures numbers_after { numbers.new ≡ numbers_behind card.now numbers.old answer.old }
     ensures answer_after { answer.new ≡ answer_of (checked_as (numbers_of card.now (length numbers.old))) answer.old }
 {
-    if answer.len() < ANSWER {
-        return 0;
-    }
-    c_answer::say(card_reply(cards::numbers(card, numbers)), answer);
-    1
+    c_answer::answer_with(answer, &mut || card_reply(cards::numbers(card, numbers)))
 }

@@ -10,10 +10,8 @@ ghost use Rattle.c_leader.specs.Calls.{field_said, value_room, value_by, field_v
 use c_answer::Reply;
 use fields::Field;
 
-// How many numbers a value and an answer have.
+// How many numbers a value has.
 const VALUE: usize = 2;
-
-const ANSWER: usize = c_answer::NUMBERS;
 
 // What a field says; its value goes another way.
 fn field_reply(x: Field) -> Reply
@@ -46,11 +44,12 @@ pub fn sbg_field(bytes: &[u8], number: u64, value: &mut [i64], answer: &mut [u64
     if value.len() < VALUE {
         return 0;
     }
-    if answer.len() < ANSWER {
-        return 0;
-    }
-    let x = fields::listed_field(bytes, number);
-    put_value(x, value);
-    c_answer::say(field_reply(x), answer);
-    1
+    c_answer::answer_with(
+        answer,
+        &mut || {
+            let x = fields::listed_field(bytes, number);
+            put_value(x, value);
+            field_reply(x)
+        },
+    )
 }

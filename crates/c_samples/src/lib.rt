@@ -13,26 +13,22 @@ ghost use Rattle.c_answer.specs.Room.{fits, answered, answer_of};
 ghost use Rattle.c_samples.specs.Calls.{parts_behind};
 
 use c_answer::Reply;
-use samples::{Patterned, Powered};
-
-// How many numbers an answer has.
-const ANSWER: usize = c_answer::NUMBERS;
+use samples::{Patterned, Powered, Sample};
 
 // What stands at a sample's place: a count, or two patterns, bits kept whatever they are.
 pub fn sample_reply(x: Patterned) -> Reply
     ensures { result ≡ reply_of (patterned_as x) 0 }
 {
     match x {
-        Patterned::Count(n) => c_answer::brief(12, n as u64, 0),
-        Patterned::Complex(p) => Reply {
+        Ok(Sample::Count(n)) => c_answer::brief(12, n as u64, 0),
+        Ok(Sample::Complex(re, im)) => Reply {
             tag: 13,
-            a: p.re as u64,
-            b: p.im as u64,
+            a: re as u64,
+            b: im as u64,
             c: 0,
             count: 0,
         },
-        Patterned::Wait(n) => c_answer::brief(1, n, 0),
-        Patterned::Refused(r) => c_answer::refusal(r, 0),
+        Err(x) => c_image::unshown_reply(x),
     }
 }
 
@@ -41,9 +37,8 @@ pub fn power_reply(x: Powered) -> Reply
     ensures { result ≡ reply_of (powered_as x) 0 }
 {
     match x {
-        Powered::Power(n) => c_answer::brief(14, n as u64, 0),
-        Powered::Wait(n) => c_answer::brief(1, n, 0),
-        Powered::Refused(r) => c_answer::refusal(r, 0),
+        Ok(n) => c_answer::brief(14, n as u64, 0),
+        Err(x) => c_image::unshown_reply(x),
     }
 }
 
@@ -52,14 +47,10 @@ pub fn sbg_sample(bytes: &[u8], line: u64, index: u64, answer: &mut [u64]) -> u6
     ensures value { result ≡ answered (fits 5 answer.old) }
     ensures answer_after { answer.new ≡ answer_of (patterned_as (pattern_of bytes.now line index)) answer.old }
 {
-    if answer.len() < ANSWER {
-        return 0;
-    }
-    c_answer::say(
-        sample_reply(samples::pattern_at(bytes, line, index)),
+    c_answer::answer_with(
         answer,
-    );
-    1
+        &mut || sample_reply(samples::pattern_at(bytes, line, index)),
+    )
 }
 
 // Its power, as a pattern.
@@ -67,11 +58,10 @@ pub fn sbg_power(bytes: &[u8], line: u64, index: u64, answer: &mut [u64]) -> u64
     ensures value { result ≡ answered (fits 5 answer.old) }
     ensures answer_after { answer.new ≡ answer_of (powered_as (power_of bytes.now line index)) answer.old }
 {
-    if answer.len() < ANSWER {
-        return 0;
-    }
-    c_answer::say(power_reply(samples::power_at(bytes, line, index)), answer);
-    1
+    c_answer::answer_with(
+        answer,
+        &mut || power_reply(samples::power_at(bytes, line, index)),
+    )
 }
 
 // The complex row copy: two patterns a sample. A row that is too short is refusal 15.
@@ -80,12 +70,8 @@ pub fn sbg_complex_row(bytes: &[u8], line: u64, row: &mut [u32], answer: &mut [u
     ensures row_after { row.new ≡ parts_behind line bytes.now row.old answer.old }
     ensures answer_after { answer.new ≡ answer_of (copied_as (parts_copied bytes.now line (length row.old))) answer.old }
 {
-    if answer.len() < ANSWER {
-        return 0;
-    }
-    c_answer::say(
-        c_image::copy_reply(complex_rows::complex_row(bytes, line, row)),
+    c_answer::answer_with(
         answer,
-    );
-    1
+        &mut || c_image::copy_reply(complex_rows::complex_row(bytes, line, row)),
+    )
 }

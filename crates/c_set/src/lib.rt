@@ -11,16 +11,13 @@ ghost use Rattle.c_answer.specs.Room.{fits, answered, answer_of};
 use c_answer::Reply;
 use sets::Agreement;
 
-// How many numbers an answer has.
-const ANSWER: usize = c_answer::NUMBERS;
-
 // What the set check answers.
 fn set_reply(x: Agreement) -> Reply
     ensures { result ≡ reply_of (agreement_as x) 0 }
 {
     match x {
-        Agreement::Agrees => c_answer::brief(9, 0, 0),
-        Agreement::Refused(r) => c_answer::refusal(r, 0),
+        Ok(()) => c_answer::brief(9, 0, 0),
+        Err(r) => c_answer::refusal(r, 0),
     }
 }
 
@@ -29,9 +26,5 @@ pub fn sbg_set(bytes: &[u8], counts: &[u64], answer: &mut [u64]) -> u64
     ensures value { result ≡ answered (fits 5 answer.old) }
     ensures answer_after { answer.new ≡ answer_of (agreement_as (set_of bytes.now counts.now)) answer.old }
 {
-    if answer.len() < ANSWER {
-        return 0;
-    }
-    c_answer::say(set_reply(sets::check(bytes, counts)), answer);
-    1
+    c_answer::answer_with(answer, &mut || set_reply(sets::check(bytes, counts)))
 }

@@ -16,16 +16,12 @@ pub fn put(st: State, state: &mut [u64])
     requires { 43 ≤ length state.old }
     ensures { state.new ≡ numbers_of st ++ drop 43 state.old }
 {
-    let c = st.plan.counts;
-    let l = st.plan.lengths;
     state[0] = st.kind;
     state[1] = st.passed;
     state[2] = st.plan.pointers;
-    let mut j: usize = 0;
-    while j < plan::ROWS {
-        state[3 + 2 * j] = c[j];
-        state[4 + 2 * j] = l[j];
-        j += 1;
+    for j in 0..plan::ROWS {
+        state[3 + 2 * j] = st.plan.counts[j];
+        state[4 + 2 * j] = st.plan.lengths[j];
     }
     state[37] = st.plan.n;
     state[38] = st.plan.l;
@@ -41,10 +37,8 @@ fn every_second(i: usize, state: &[u64]) -> [u64; plan::ROWS]
     ensures { result ≡ every_second i state.now }
 {
     let mut a = [0u64; plan::ROWS];
-    let mut j: usize = 0;
-    while j < plan::ROWS {
+    for j in 0..plan::ROWS {
         a[j] = state[i + 2 * j];
-        j += 1;
     }
     a
 }
@@ -56,7 +50,7 @@ pub fn get(state: &[u64]) -> State
 {
     let counts = every_second(3, state);
     let lengths = every_second(4, state);
-    let p = Plan {
+    let plan = Plan {
         pointers: state[2],
         counts,
         lengths,
@@ -70,6 +64,6 @@ pub fn get(state: &[u64]) -> State
     State {
         kind: state[0],
         passed: state[1],
-        plan: p,
+        plan,
     }
 }

@@ -2,7 +2,7 @@
 use Rattle.std.specs.Prelude.{ℕ, List, Bool, not, eqb}
 use Rattle.words.specs.Tests.{pick, both_of}
 use Rattle.walk.specs.State.{start_of}
-use Rattle.walk.specs.Walk.{begin_of, walk_of}
+use Rattle.walk.specs.Walk.{begin_of, walk_of, state_begun}
 use Rattle.walk.specs.Said.{stop_as, beginning_as}
 use Rattle.walk.specs.declared.Walked.{Walked}
 use Rattle.c_state.specs.Numbers.{state_in, numbers_of}
@@ -28,11 +28,11 @@ start_in state = pick (fits 43 state) (start_of (state_in state)) 0
 
 -- the state behind `sbg_begin`
 abbrev pub begun_state : ℕ → List ℕ → List ℕ → List ℕ
-begun_state kind s a = behind (room s a) (numbers_of (begin_of kind).state) s
+begun_state kind s a = behind (room s a) (numbers_of (state_begun (begin_of kind))) s
 
 -- the answer behind `sbg_begin`
 abbrev pub begun_answer : ℕ → List ℕ → List ℕ → List ℕ
-begun_answer kind s a = behind (room s a) (said (beginning_as (begin_of kind).answer) 0) a
+begun_answer kind s a = behind (room s a) (said (beginning_as (begin_of kind)) 0) a
 
 -- the state behind `sbg_walk`
 abbrev pub walked_state : ℕ → ℕ → List ℕ → List ℕ → List ℕ → List ℕ

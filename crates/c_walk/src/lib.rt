@@ -10,7 +10,8 @@ ghost use Rattle.c_walk.specs.Calls.{room, begun_state, begun_answer, walked_sta
 
 use c_answer::Reply;
 use turns::Stop;
-use walk::{Beginning, State};
+use walk::State;
+use words::Refusal;
 
 // How many numbers a state and an answer have.
 const STATE: usize = c_state::NUMBERS;
@@ -18,12 +19,12 @@ const STATE: usize = c_state::NUMBERS;
 const ANSWER: usize = c_answer::NUMBERS;
 
 // What a begun walk answers.
-fn beginning_reply(x: Beginning) -> Reply
+fn beginning_reply(x: Result<State, Refusal>) -> Reply
     ensures { result ≡ reply_of (beginning_as x) 0 }
 {
     match x {
-        Beginning::Fresh => c_answer::brief(4, 0, 0),
-        Beginning::Unknown(r) => c_answer::refusal(r, 0),
+        Ok(_) => c_answer::brief(4, 0, 0),
+        Err(r) => c_answer::refusal(r, 0),
     }
 }
 
@@ -45,17 +46,12 @@ pub fn sbg_begin(kind: u64, state: &mut [u64], answer: &mut [u64]) -> u64
     ensures state_after { state.new ≡ begun_state kind state.old answer.old }
     ensures answer_after { answer.new ≡ begun_answer kind state.old answer.old }
 {
-    if state.len() < STATE {
-        return 0;
-    }
-    if answer.len() < ANSWER {
+    if state.len() < STATE || answer.len() < ANSWER {
         return 0;
     }
     let begun = State::none().begin(kind);
-    let st = begun.state;
-    let x = begun.answer;
-    c_state::put(st, state);
-    c_answer::say(beginning_reply(x), answer);
+    c_state::put(begun.unwrap_or(State::none()), state);
+    c_answer::say(beginning_reply(begun), answer);
     1
 }
 
@@ -71,18 +67,13 @@ pub fn sbg_walk(
     ensures state_after { state.new ≡ walked_state closed budget bytes.now state.old answer.old }
     ensures answer_after { answer.new ≡ walked_answer closed budget bytes.now state.old answer.old }
 {
-    if state.len() < STATE {
-        return 0;
-    }
-    if answer.len() < ANSWER {
+    if state.len() < STATE || answer.len() < ANSWER {
         return 0;
     }
     let st = c_state::get(state);
-    let w = st.walk(bytes, closed != 0, budget);
-    let moved = w.state;
-    let x = w.stop;
-    c_state::put(moved, state);
-    c_answer::say(stop_reply(x, w.count), answer);
+    let walked = st.walk(bytes, closed != 0, budget);
+    c_state::put(walked.state, state);
+    c_answer::say(stop_reply(walked.stop, walked.count), answer);
     1
 }
 

@@ -1,33 +1,30 @@
--- The answer of the builder and the lent bytes by the two walks' stops and by the card's length; the plans of two walks are small.
-use Prim.Native.Nat.{ℕ, ◌+◌, ◌*◌, ◌≤◌, ◌<◌}
+-- The answer of the builder and the lent bytes by what the two walks name and by the card's length; the plans of two walks are small.
+use Prim.Native.Nat.{ℕ, ◌≤◌, ◌<◌}
 use mathlib.Core.Path.{◌≡◌, refl, sym, ap, ap₂, ◌∙◌, subst}
-use mathlib.Core.List.{List, [], ◌∷◌}
+use mathlib.Core.List.{List}
 use mathlib.Core.Bool.{true}
-use mathlib.Core.Logic.{⊎_elim}
 use native.Mathlib.Omega.{arith}
-use lib.ListN.{length, get_or}
+use lib.ListN.{length}
 use borrow.Author.Tests.{lt-ltb, le-ltb}
+use Rattle.std.specs.Prelude.{Ok, Err}
 use Rattle.words.specs.Answer.{bare_refusal}
 use Rattle.words.specs.declared.Refusal.{Refusal}
 use Rattle.writing.specs.Writing.{written}
-use Rattle.plan.specs.Plan.{image, leader, run_counts, run_lengths, Small, total_of}
+use Rattle.plan.specs.Plan.{image, leader, run_counts, run_lengths, Small}
 use Rattle.plan.specs.declared.Plan.{Plan}
-use Rattle.walk.specs.State.{fresh, good_state}
-use Rattle.walk.specs.declared.State.{State}
+use Rattle.walk.specs.State.{fresh}
 use Rattle.walk.specs.declared.Walked.{Walked}
 use Rattle.turns.specs.declared.Stop.{Stop}
-use Rattle.turns.specs.declared.Stop.TheVariants.{Wait, Pause, Complete, Refused as Refused'}
+use Rattle.turns.specs.declared.Stop.TheVariants.{Wait, Pause, Complete, Refused}
 use Rattle.walk.proofs.GoodLaws.{ready, fresh_good}
 use Rattle.walk.proofs.KeptLaws.{good_kept, kind_kept}
 use Rattle.card_build.specs.Build.{closed, card_bytes, card_long, fitted_of, fitted_card, Planned}
-use Rattle.card_build.specs.Build.{built_behind, card_behind, image_plan, leader_plan, built_of, card_of}
-use Rattle.card_build.specs.declared.Built.{Built}
-use Rattle.card_build.specs.declared.Built.TheVariants.{Bytes, Refused}
+use Rattle.card_build.specs.Build.{Built, named_behind, named_by, built_behind, card_behind, image_plan, leader_plan, built_of, card_of}
 
 -- ---- the card fits or not
 
 module _ (p q : Plan) (bs out : List ℕ) (long : ℕ) (e : long ≡ card_long p q) where
-  pub short_answer : length out < long → Refused (bare_refusal 37) ≡ fitted_of p q (length out)
+  pub short_answer : length out < long → Err (bare_refusal 37) ≡ fitted_of p q (length out)
   unfolding fitted_of
   short_answer h = sym (rw (lt-ltb (length out) (card_long p q) (omega arith)))
 
@@ -35,9 +32,9 @@ module _ (p q : Plan) (bs out : List ℕ) (long : ℕ) (e : long ≡ card_long p
   unfolding fitted_card
   short_card h = sym (rw (lt-ltb (length out) (card_long p q) (omega arith)))
 
-  pub fits_answer : long ≤ length out → Bytes long ≡ fitted_of p q (length out)
+  pub fits_answer : long ≤ length out → Ok long ≡ fitted_of p q (length out)
   unfolding fitted_of
-  fits_answer h = sym (rw (le-ltb (length out) (card_long p q) (omega arith)) (ap Bytes (sym e)))
+  fits_answer h = sym (rw (le-ltb (length out) (card_long p q) (omega arith)) (ap Ok (sym e)))
 
   pub fits_card : long ≤ length out → written out 0 (card_bytes p q bs) ≡ fitted_card p q bs out
   unfolding fitted_card
@@ -61,63 +58,83 @@ planned bs ls =
     let f = few_lines (image_plan bs) (small_kind image bs (omega arith) (omega arith)) in
     record { lines = f.0; short = f.1; small = small_kind leader ls (omega arith) (omega arith) }
 
-pub built_on : (x : Stop) (a : Built) → ((r : Refusal) → x ≡ Refused' r → ⊥) → built_behind x a ≡ a
-built_on (Wait n) a o = refl
-built_on Pause a o = refl
-built_on Complete a o = refl
-built_on (Refused' r) a o = absurd (o r refl)
+-- what a closed walk names, by its stop
+pub named_err : (w : Walked) (r : Refusal) → named_by w ≡ Err r → w.stop ≡ Refused r
+named_err w r e = go w.stop e
+  where
+    go : (x : Stop) → named_behind x w.state.plan ≡ Err r → x ≡ Refused r
+    go (Wait n) h = absurd cc
+    go Pause h = absurd cc
+    go Complete h = absurd cc
+    go (Refused r') h = let q : r' ≡ r = cc in ap Refused q
 
-pub card_on : (x : Stop) (old new : List ℕ) → ((r : Refusal) → x ≡ Refused' r → ⊥) → card_behind x old new ≡ new
-card_on (Wait n) old new o = refl
-card_on Pause old new o = refl
-card_on Complete old new o = refl
-card_on (Refused' r) old new o = absurd (o r refl)
+-- where it names a plan, the answer and the card are what is behind it
+pub record Named (w : Walked) (p : Plan) : Type 0 where
+  pub plan : w.state.plan ≡ p
+  pub answer : (a : Built) → built_behind w.stop a ≡ a
+  pub card : (old new : List ℕ) → card_behind w.stop old new ≡ new
 
-module _ (bs ls out : List ℕ) (v w : Walked) (one : v ≡ closed image bs) where
-  image_is : (x : Stop) → v.stop ≡ x → (closed image bs).stop ≡ x
-  image_is x e = ap (λ (u : Walked). u.stop) (sym one) ∙ e
+pub named_ok : (w : Walked) (p : Plan) → named_by w ≡ Ok p → Named w p
+named_ok w p e = let g = go w.stop e in record { plan = g.0; answer = g.1; card = g.2 }
+  where
+    go : (x : Stop) → named_behind x w.state.plan ≡ Ok p
+        → (w.state.plan ≡ p) × ((a : Built) → built_behind x a ≡ a) × ((old new : List ℕ) → card_behind x old new ≡ new)
+    go (Wait n) h = (cc, λ a. refl, λ old new. refl)
+    go Pause h = (cc, λ a. refl, λ old new. refl)
+    go Complete h = (cc, λ a. refl, λ old new. refl)
+    go (Refused r) h = absurd cc
 
+-- the refusal of a walk, and the plan of one that is not refused
+pub named_refused : (w : Walked) (r : Refusal) → w.stop ≡ Refused r → Err r ≡ named_by w
+named_refused w r e = sym (ap (λ (x : Stop). named_behind x w.state.plan) e)
+
+pub named_plan : (w : Walked) → ((r : Refusal) → w.stop ≡ Refused r → ⊥) → Ok w.state.plan ≡ named_by w
+named_plan w o = go w.stop o
+  where
+    go : (x : Stop) → ((r : Refusal) → x ≡ Refused r → ⊥) → Ok w.state.plan ≡ named_behind x w.state.plan
+    go (Wait n) h = refl
+    go Pause h = refl
+    go Complete h = refl
+    go (Refused r) h = absurd (h r refl)
+
+module _ (bs ls out : List ℕ) where
   -- the image's refusal
-  pub image_answer : (r : Refusal) → v.stop ≡ Refused' r → Refused r ≡ built_of bs ls (length out)
-  unfolding built_of
-  image_answer r e =
-      sym (ap (λ (x : Stop). built_behind x (built_behind (closed leader ls).stop (fitted_of (image_plan bs) (leader_plan ls) (length out)))) (image_is
-      (Refused' r) e))
-
-  pub image_card : (r : Refusal) → v.stop ≡ Refused' r → out ≡ card_of bs ls out
-  unfolding card_of
-  image_card r e =
-      sym (ap (λ (x : Stop). card_behind x out (card_behind (closed leader ls).stop out (fitted_card (image_plan bs) (leader_plan ls) bs out))) (image_is
-      (Refused' r) e))
-
-  module _ (o : (r : Refusal) → v.stop ≡ Refused' r → ⊥) (two : w ≡ closed leader ls) where
-    behind_answer : built_of bs ls (length out) ≡ built_behind w.stop (fitted_of v.state.plan w.state.plan (length out))
+  module _ (r : Refusal) (one : named_by (closed image bs) ≡ Err r) where
+    pub image_answer : Err r ≡ built_of bs ls (length out)
     unfolding built_of
-    behind_answer =
-        ap₂ (λ (x y : Walked). built_behind x.stop (built_behind y.stop (fitted_of x.state.plan y.state.plan (length out)))) (sym one) (sym two)
-        ∙ built_on v.stop _ o
+    image_answer = sym (rw (named_err (closed image bs) r one))
 
-    behind_card : card_of bs ls out ≡ card_behind w.stop out (fitted_card v.state.plan w.state.plan bs out)
+    pub image_card : out ≡ card_of bs ls out
     unfolding card_of
-    behind_card =
-        ap₂ (λ (x y : Walked). card_behind x.stop out (card_behind y.stop out (fitted_card x.state.plan y.state.plan bs out))) (sym one) (sym two)
-        ∙ card_on v.stop out _ o
+    image_card = sym (rw (named_err (closed image bs) r one))
 
+  module _ (p : Plan) (one : named_by (closed image bs) ≡ Ok p) where
     -- the leader's
-    pub leader_answer : (r : Refusal) → w.stop ≡ Refused' r → Refused r ≡ built_of bs ls (length out)
-    leader_answer r e = sym (behind_answer ∙ ap (λ (x : Stop). built_behind x (fitted_of v.state.plan w.state.plan (length out))) e)
+    module _ (r : Refusal) (two : named_by (closed leader ls) ≡ Err r) where
+      pub leader_answer : Err r ≡ built_of bs ls (length out)
+      unfolding built_of
+      leader_answer = sym ((named_ok (closed image bs) p one).answer _ ∙ rw (named_err (closed leader ls) r two))
 
-    pub leader_card : (r : Refusal) → w.stop ≡ Refused' r → out ≡ card_of bs ls out
-    leader_card r e = sym (behind_card ∙ ap (λ (x : Stop). card_behind x out (fitted_card v.state.plan w.state.plan bs out)) e)
+      pub leader_card : out ≡ card_of bs ls out
+      unfolding card_of
+      leader_card = sym ((named_ok (closed image bs) p one).card out _ ∙ rw (named_err (closed leader ls) r two))
 
     -- neither
-    pub both_planned : Planned v.state.plan w.state.plan
-    both_planned = subst (λ (x : Walked). Planned x.state.plan w.state.plan) (sym one)
-        (subst (λ (y : Walked). Planned (image_plan bs) y.state.plan) (sym two) (planned bs ls))
+    module _ (q : Plan) (two : named_by (closed leader ls) ≡ Ok q) where
+      pub both_planned : Planned p q
+      both_planned =
+          rw (← (named_ok (closed image bs) p one).plan, ← (named_ok (closed leader ls) q two).plan) (planned bs ls)
 
-    module _ (o' : (r : Refusal) → w.stop ≡ Refused' r → ⊥) where
-      pub fitted_answer : fitted_of v.state.plan w.state.plan (length out) ≡ built_of bs ls (length out)
-      fitted_answer = sym (behind_answer ∙ built_on w.stop _ o')
+      pub fitted_answer : fitted_of p q (length out) ≡ built_of bs ls (length out)
+      unfolding built_of
+      fitted_answer =
+          let f = named_ok (closed image bs) p one in
+          let g = named_ok (closed leader ls) q two in
+          sym (f.answer _ ∙ g.answer _ ∙ ap₂ (λ (x y : Plan). fitted_of x y (length out)) f.plan g.plan)
 
-      pub fitted_card_lem : fitted_card v.state.plan w.state.plan bs out ≡ card_of bs ls out
-      fitted_card_lem = sym (behind_card ∙ card_on w.stop out _ o')
+      pub fitted_card_lem : fitted_card p q bs out ≡ card_of bs ls out
+      unfolding card_of
+      fitted_card_lem =
+          let f = named_ok (closed image bs) p one in
+          let g = named_ok (closed leader ls) q two in
+          sym (f.card out _ ∙ g.card out _ ∙ ap₂ (λ (x y : Plan). fitted_card x y bs out) f.plan g.plan)

@@ -1,14 +1,15 @@
 -- The entries as they are written, and the lines and the leader records one at a time: what is left to write behind those that are written gives the
 -- whole; the answer by the two walks' stops.
 use Prim.Native.Nat.{ℕ, zero, suc, ◌+◌, ◌-◌, ◌*◌, ◌%◌, ◌≤◌, ◌<◌}
-use mathlib.Core.Path.{◌≡◌, refl, sym, ap, ap₂, ◌∙◌, subst}
+use mathlib.Core.Path.{◌≡◌, refl, sym, ap, ap₂, ◌∙◌}
 use mathlib.Core.List.{List, [], ◌∷◌, ◌++◌, append_assoc}
+use native.Mathlib.Nat.{mul-le-mul, suc-mul}
 use native.Mathlib.Numerals.{add-one}
 use native.Mathlib.Omega.{arith}
 use lib.ListN.{length, set, length-append, length-set}
 use Rattle.words.specs.Words.{four_at, place_of}
 use Rattle.writing.specs.Writing.{written, four_of}
-use Rattle.writing.proofs.WrittenLaws.{written_none, written_then, written_on, written_one, length_written}
+use Rattle.writing.proofs.WrittenLaws.{written_none, written_on, written_one}
 use Rattle.plan.specs.Plan.{leader, due_of, total_of}
 use Rattle.plan.specs.declared.Plan.{Plan}
 use Rattle.card_build.specs.Build.{line_bytes, leader_bytes, first_bytes, lines_bytes, leaders_bytes, card_bytes, card_long}
@@ -43,12 +44,21 @@ entry_on : (out : List ℕ) (to to' : ℕ) (e on new : List ℕ) → to + length
     → written out to (e ++ on) ≡ written new to' on
 entry_on out to to' e on new p h q = sym (written_on out to to' e on new (written new to' on) p h q refl)
 
-module _ (n k at l to : ℕ) (bs out new : List ℕ) where
-  pub lines_next : (left count : ℕ) → k < n → to + 13 * (n - k) ≤ length out → left ≡ four_at bs (at + place_of 21) → count ≡ four_at bs (at + place_of 25)
-      → new ≡ written out to (line_bytes (k + 1) left count)
-      → written out to (lines_bytes (n - k) k at l bs) ≡ written new (to + 13) (lines_bytes (n - (k + 1)) (k + 1) (at + l) l bs)
+-- lines before an image's last lie below 2 ^ 47
+pub few_bytes : (k l : ℕ) → k ≤ 999999 → l ≤ 99999999 → k * l ≤ 999999 * 99999999
+few_bytes k l a b = mul-le-mul a b
+
+module _ (n k l : ℕ) (bs out new : List ℕ) where
+  pub lines_next : (left count : ℕ) → k < n → 17 + 13 * n ≤ length out → left ≡ four_at bs (720 + k * l + place_of 21)
+      → count ≡ four_at bs (720 + k * l + place_of 25) → new ≡ written out (17 + 13 * k) (line_bytes (k + 1) left count)
+      → written out (17 + 13 * k) (lines_bytes (n - k) k (720 + k * l) l bs)
+      ≡ written new (17 + 13 * (k + 1)) (lines_bytes (n - (k + 1)) (k + 1) (720 + (k + 1) * l) l bs)
   unfolding lines_bytes
   lines_next left count h r p q e =
+      let at : ℕ = 720 + k * l in
+      let to : ℕ = 17 + 13 * k in
+      let next : at + l ≡ 720 + (k + 1) * l = omega (arith, suc-mul k l, add-one k) in
+      let step : to + 13 ≡ 17 + 13 * (k + 1) = omega arith in
       let on : List ℕ = lines_bytes (n - (k + 1)) (k + 1) (at + l) l bs in
       ap (λ (f : ℕ). written out to (lines_bytes f k at l bs)) (less_one n k h)
       ∙ ap (λ (i : ℕ). written out to
@@ -56,26 +66,33 @@ module _ (n k at l to : ℕ) (bs out new : List ℕ) where
       (sym (add-one k))
       ∙ ap₂ (λ (x y : ℕ). written out to (line_bytes (k + 1) x y ++ on)) (sym p) (sym q)
       ∙ entry_on out to (to + 13) (line_bytes (k + 1) left count) on new refl (omega (arith, lines_long (n - (k + 1)) (k + 1) (at + l) l bs)) e
+      ∙ ap₂ (λ (j i : ℕ). written new j (lines_bytes (n - (k + 1)) (k + 1) i l bs)) step next
 
-  pub lines_end : n ≤ k → written out to (lines_bytes (n - k) k at l bs) ≡ out
+  pub lines_end : n ≤ k → written out (17 + 13 * k) (lines_bytes (n - k) k (720 + k * l) l bs) ≡ out
   unfolding lines_bytes
-  lines_end h = let z : n - k ≡ 0 = omega arith in ap (λ (f : ℕ). written out to (lines_bytes f k at l bs)) z ∙ written_none out to
+  lines_end h = let z : n - k ≡ 0 = omega arith in
+      ap (λ (f : ℕ). written out (17 + 13 * k) (lines_bytes f k (720 + k * l) l bs)) z ∙ written_none out (17 + 13 * k)
 
-module _ (n k to : ℕ) (q : Plan) (out new : List ℕ) where
-  pub leaders_next : k < n → to + 10 * (n - k) ≤ length out → new ≡ written out to (leader_bytes (k + 1) (due_of leader q k).start (due_of leader q k).length)
-      → written out to (leaders_bytes (n - k) k q) ≡ written new (to + 10) (leaders_bytes (n - (k + 1)) (k + 1) q)
+module _ (n k from : ℕ) (q : Plan) (out new : List ℕ) where
+  pub leaders_next : k < n → from + 10 * n ≤ length out
+      → new ≡ written out (from + 10 * k) (leader_bytes (k + 1) (due_of leader q k).start (due_of leader q k).length)
+      → written out (from + 10 * k) (leaders_bytes (n - k) k q) ≡ written new (from + 10 * (k + 1)) (leaders_bytes (n - (k + 1)) (k + 1) q)
   unfolding leaders_bytes
   leaders_next h r e =
+      let to : ℕ = from + 10 * k in
+      let step : to + 10 ≡ from + 10 * (k + 1) = omega arith in
       let on : List ℕ = leaders_bytes (n - (k + 1)) (k + 1) q in
       ap (λ (f : ℕ). written out to (leaders_bytes f k q)) (less_one n k h)
       ∙ ap (λ (i : ℕ). written out to (leader_bytes i (due_of leader q k).start (due_of leader q k).length ++ leaders_bytes (n - (k + 1)) i q)) (sym
       (add-one k))
       ∙ entry_on out to (to + 10) (leader_bytes (k + 1) (due_of leader q k).start (due_of leader q k).length) on new refl
       (omega (arith, leaders_long (n - (k + 1)) (k + 1) q)) e
+      ∙ ap (λ (i : ℕ). written new i on) step
 
-  pub leaders_end : n ≤ k → written out to (leaders_bytes (n - k) k q) ≡ out
+  pub leaders_end : n ≤ k → written out (from + 10 * k) (leaders_bytes (n - k) k q) ≡ out
   unfolding leaders_bytes
-  leaders_end h = let z : n - k ≡ 0 = omega arith in ap (λ (f : ℕ). written out to (leaders_bytes f k q)) z ∙ written_none out to
+  leaders_end h = let z : n - k ≡ 0 = omega arith in
+      ap (λ (f : ℕ). written out (from + 10 * k) (leaders_bytes f k q)) z ∙ written_none out (from + 10 * k)
 
 -- the entries, number by number
 pub first_put : (p : Plan) (out one two : List ℕ) → 17 ≤ length out → one ≡ written (set out 0 1) 1 (four_of p.n ++ four_of p.l)

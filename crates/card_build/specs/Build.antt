@@ -1,22 +1,35 @@
 -- The card builder (document 02, No. 1): the bytes that it writes for an image and its leader, and its answer. Assumes nothing.
-use Rattle.std.specs.Prelude.{ℕ, zero, suc, ◌+◌, ◌*◌, ◌%◌, ◌≤◌, List, [], ◌∷◌, ◌++◌, true, ltb, length}
+use Rattle.std.specs.Prelude.{ℕ, zero, suc, ◌+◌, ◌*◌, ◌%◌, ◌≤◌, List, [], ◌∷◌, ◌++◌, true, ltb, length, Result, Ok, Err}
 use Rattle.words.specs.Tests.{pick}
 use Rattle.words.specs.Words.{four_at, place_of}
 use Rattle.words.specs.Answer.{bare_refusal}
+use Rattle.words.specs.declared.Refusal.{Refusal}
 use Rattle.writing.specs.Writing.{written, four_of}
 use Rattle.plan.specs.Plan.{image, leader, run_counts, run_lengths, Small, total_of, due_of}
 use Rattle.plan.specs.declared.Plan.{Plan}
 use Rattle.walk.specs.State.{fresh}
 use Rattle.walk.specs.Walk.{walk_of}
 use Rattle.turns.specs.declared.Stop.{Stop}
-use Rattle.turns.specs.declared.Stop.TheVariants.{Wait, Pause, Complete, Refused as Refused'}
+use Rattle.turns.specs.declared.Stop.TheVariants.{Wait, Pause, Complete, Refused}
 use Rattle.walk.specs.declared.Walked.{Walked}
-use Rattle.card_build.specs.declared.Built.{Built}
-use Rattle.card_build.specs.declared.Built.TheVariants.{Bytes, Refused}
+
+-- how many bytes the card has; or why there is none
+abbrev pub Built : Type 0
+Built = Result ℕ Refusal
 
 -- the closed walk of a whole file: its budget is one more than the most records that a plan can have
 abbrev pub closed : ℕ → List ℕ → Walked
 closed kind bs = walk_of 17000002 (fresh kind) bs true
+
+-- what a closed walk names: its own refusal, or the plan
+abbrev pub named_behind : Stop → Plan → Result Plan Refusal
+named_behind (Refused r) p = Err r
+named_behind (Wait n) p = Ok p
+named_behind Pause p = Ok p
+named_behind Complete p = Ok p
+
+abbrev pub named_by : Walked → Result Plan Refusal
+named_by w = named_behind w.stop w.state.plan
 
 -- ---- the entries' bytes
 
@@ -53,7 +66,7 @@ card_long p q = 17 + 13 * p.n + 10 * total_of leader q
 
 -- 37 where the card does not fit m bytes
 unfoldable pub fitted_of : Plan → Plan → ℕ → Built
-fitted_of p q m = pick (ltb m (card_long p q)) (Refused (bare_refusal 37)) (Bytes (card_long p q))
+fitted_of p q m = pick (ltb m (card_long p q)) (Err (bare_refusal 37)) (Ok (card_long p q))
 
 -- the lent bytes behind it: the card, and those past it stay; where it does not fit all stay
 unfoldable pub fitted_card : Plan → Plan → List ℕ → List ℕ → List ℕ
@@ -61,14 +74,14 @@ fitted_card p q bs out = pick (ltb (length out) (card_long p q)) out (written ou
 
 -- a file's own refusal first
 abbrev pub built_behind : Stop → Built → Built
-built_behind (Refused' r) x = Refused r
+built_behind (Refused r) x = Err r
 built_behind (Wait n) x = x
 built_behind Pause x = x
 built_behind Complete x = x
 
 -- and then nothing is written
 abbrev pub card_behind : Stop → List ℕ → List ℕ → List ℕ
-card_behind (Refused' r) old new = old
+card_behind (Refused r) old new = old
 card_behind (Wait n) old new = new
 card_behind Pause old new = new
 card_behind Complete old new = new

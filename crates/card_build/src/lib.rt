@@ -6,35 +6,35 @@ ghost use Rattle.std.specs.Prelude.{◌≡◌, true, ◌++◌, ◌+◌, ◌*◌,
 ghost use Rattle.words.specs.Tests.{within_of};
 ghost use Rattle.writing.specs.Writing.{written, four_of};
 ghost use Rattle.plan.specs.Plan.{leader, run_counts, run_lengths, Small, total_of};
-ghost use Rattle.card_build.specs.Build.{closed, first_bytes, line_bytes, leader_bytes, lines_bytes, leaders_bytes, card_bytes, card_long};
+ghost use Rattle.card_build.specs.Build.{closed, named_by, first_bytes, line_bytes, leader_bytes, lines_bytes, leaders_bytes, card_bytes, card_long};
 ghost use Rattle.card_build.specs.Build.{fitted_of, fitted_card, built_of, card_of, Planned};
 
 use plan::Plan;
 use turns::Stop;
-use walk::{State, Walked};
+use walk::State;
 use words::Refusal;
 
-// The card's bytes; or why there is none.
-#[derive(Clone, Copy)]
-pub enum Built {
-    Bytes(u64),
-    Refused(Refusal),
-}
+// How many bytes the card has; or why there is none.
+pub type Built = Result<u64, Refusal>;
 
 // One more than the most records that a plan can have: a walk with this budget does not pause.
 const BUDGET: u64 = 17000002;
 
-// The closed walk of a whole file.
-fn closed(kind: u64, bytes: &[u8]) -> Walked
+// The plan that a whole file names, or its refusal: its closed walk.
+fn named(kind: u64, bytes: &[u8]) -> Result<Plan, Refusal>
     requires { within_of 1 kind 4 ≡ true }
-    ensures { result ≡ closed kind bytes.now }
+    ensures { result ≡ named_by (closed kind bytes.now) }
 {
-    let begun = State::none().begin(kind);
-    let fresh = begun.state;
-    fresh.walk(bytes, true, BUDGET)
+    let fresh = State::none().begin(kind)?;
+    let walked = fresh.walk(bytes, true, BUDGET);
+    if let Stop::Refused(r) = walked.stop {
+        return Err(r);
+    }
+    Ok(walked.state.plan)
 }
 
 // Two numbers of four bytes each.
+#[tactic(auto, using(writing::proofs::WrittenLaws::written_on))]
 fn put_two(out: &mut [u8], at: usize, a: u64, b: u64)
     requires { at + 8 ≤ length out.old }
     ensures { out.new ≡ written out.old at (four_of a ++ four_of b) }
@@ -64,6 +64,7 @@ fn put_line(out: &mut [u8], at: usize, k: u64, left: u64, count: u64)
 }
 
 // Kind 3: the leader record's ordinal, start and length.
+#[tactic(auto, using(crate::proofs::BuildLaws::leader_put))]
 fn put_leader(out: &mut [u8], at: usize, k: u64, start: u64, long: u64)
     requires { at + 10 ≤ length out.old }
     ensures { out.new ≡ written out.old at (leader_bytes k start long) }
@@ -78,16 +79,11 @@ fn put_lines(image: &[u8], p: Plan, out: &mut [u8])
     requires { (p.n ≤ 999999) × (p.l ≤ 99999999) × (17 + 13 * p.n ≤ length out.old) }
     ensures { out.new ≡ written out.old 17 (lines_bytes p.n 0 720 p.l image.now) }
 {
-    let mut k: u64 = 0;
-    let mut to: usize = 17;
-    let mut at: usize = 720;
-    while k < p.n {
+    for k in 0..p.n {
+        let at = (720 + k * p.l) as usize;
         let left = words::four(image, at + words::place(21));
         let data = words::four(image, at + words::place(25));
-        put_line(out, to, k + 1, left, data);
-        at += p.l as usize;
-        to += 13;
-        k += 1;
+        put_line(out, 17 + 13 * k as usize, k + 1, left, data);
     }
 }
 
@@ -97,13 +93,9 @@ fn put_leaders(q: Plan, records: u64, out: &mut [u8], from: usize)
     requires records_bound { (records ≤ total_of leader q) × (from + 10 * records ≤ length out.old) }
     ensures { out.new ≡ written out.old from (leaders_bytes records 0 q) }
 {
-    let mut k: u64 = 0;
-    let mut to = from;
-    while k < records {
+    for k in 0..records {
         let due = plan::due_of(plan::LEADER, q, k);
-        put_leader(out, to, k + 1, due.start, due.length);
-        to += 10;
-        k += 1;
+        put_leader(out, from + 10 * k as usize, k + 1, due.start, due.length);
     }
 }
 
@@ -116,13 +108,13 @@ fn fitted(image: &[u8], p: Plan, q: Plan, card: &mut [u8]) -> Built
     let records = plan::total(plan::LEADER, q);
     let long = 17 + 13 * p.n + 10 * records;
     if (card.len() as u64) < long {
-        return Built::Refused(words::bare(37));
+        return Err(words::bare(37));
     }
     let lines = 13 * p.n as usize;
     put_first(p, card);
     put_lines(image, p, card);
     put_leaders(q, records, card, 17 + lines);
-    Built::Bytes(long)
+    Ok(long)
 }
 
 // Builds the card of an image and its leader, both whole, at the start of the lent bytes; those behind
@@ -131,19 +123,7 @@ pub fn build(image: &[u8], leader: &[u8], card: &mut [u8]) -> Built
     ensures value { result ≡ built_of image.now leader.now (length card.old) }
     ensures card_after { card.new ≡ card_of image.now leader.now card.old }
 {
-    let scene = closed(plan::IMAGE, image);
-    let first = scene.stop;
-    if let Stop::Refused(r) = first {
-        return Built::Refused(r);
-    }
-    let notes = closed(plan::LEADER, leader);
-    let second = notes.stop;
-    if let Stop::Refused(r) = second {
-        return Built::Refused(r);
-    }
-    let s = scene.state;
-    let t = notes.state;
-    let p = s.plan;
-    let q = t.plan;
-    fitted(image, p, q, card)
+    let scene = named(plan::IMAGE, image)?;
+    let notes = named(plan::LEADER, leader)?;
+    fitted(image, scene, notes, card)
 }

@@ -1,16 +1,17 @@
 -- The builder's answer over what a file is: a card that reads back with the scene's numbers, 37 exactly where it does not fit, each file's own refusal
 -- before that; and bytes that are not the card's stay.
-use Prim.Native.Nat.{ℕ, zero, suc, ◌+◌, ◌*◌, ◌≤◌, ◌<◌}
+use Prim.Native.Nat.{ℕ, suc, ◌+◌, ◌*◌, ◌≤◌, ◌<◌}
 use mathlib.Core.Path.{◌≡◌, refl, sym, ap, ap₂, ◌∙◌, subst}
-use mathlib.Core.List.{List, [], ◌∷◌, ◌++◌}
+use mathlib.Core.List.{List, ◌++◌}
 use mathlib.Core.Bool.{Bool, true, false}
-use mathlib.Core.Logic.{◌⊎◌, ◌↔◌, inl, inr, ⊎_elim}
+use mathlib.Core.Logic.{◌↔◌, ⊎_elim}
 use native.Mathlib.Omega.{arith}
 use lib.Dec.{ltb}
-use lib.ListN.{length, take, drop, length-append, length-replicate}
-use borrow.Author.Tests.{lt-ltb, le-ltb, ltb-true, ltb-false}
+use lib.ListN.{length, take, drop, length-append}
+use borrow.Author.Tests.{lt-ltb, le-ltb, ltb-true}
+use Rattle.std.specs.Prelude.{Ok, Err}
 use Rattle.words.specs.Tests.{pick}
-use Rattle.words.specs.Answer.{Answer, bare_refusal, refused_as}
+use Rattle.words.specs.Answer.{bare_refusal}
 use Rattle.words.specs.declared.Refusal.{Refusal}
 use Rattle.words.proofs.Laws.{cases}
 use Rattle.writing.specs.Writing.{written}
@@ -18,36 +19,24 @@ use Rattle.writing.proofs.WrittenLaws.{take_written, drop_written}
 use Rattle.plan.specs.Plan as plan
 use Rattle.plan.specs.Plan.{total_of, run_counts, sum_of}
 use Rattle.plan.specs.declared.Plan.{Plan}
-use Rattle.plan.proofs.Bounds.{total_small}
-use Rattle.walk.specs.State.{fresh}
-use Rattle.walk.specs.Walk.{walk_of, next_of}
-use Rattle.walk.specs.declared.State.{State}
-use Rattle.walk.proofs.GoodLaws.{ready, fresh_good}
-use Rattle.walk.proofs.KeptLaws.{kept, good_kept, kind_kept}
 use Rattle.turns.specs.declared.Stop.{Stop}
 use Rattle.turns.specs.declared.Stop.TheVariants as stop
-use Rattle.card_theorems.specs.Card.{Numbers, Card, listed}
-use Rattle.cards.specs.Check.{check_of, flat_of}
-use Rattle.cards.specs.declared.Checked.TheVariants as checked
+use Rattle.card_theorems.specs.Card.{Card, listed}
+use Rattle.cards.specs.Check.{carded, check_of, flat_of}
 use Rattle.card_build.specs.Build.{closed, first_bytes, lines_bytes, leaders_bytes, card_bytes, card_long, fitted_of, fitted_card}
-use Rattle.card_build.specs.Build.{built_behind, card_behind, image_plan, leader_plan, built_of, card_of}
-use Rattle.card_build.specs.Said.{built_as}
-use Rattle.card_build.specs.declared.Built.{Built}
-use Rattle.card_build.specs.declared.Built.TheVariants as built
+use Rattle.card_build.specs.Build.{Built, built_behind, card_behind, image_plan, leader_plan, built_of, card_of}
 use Rattle.card_build.proofs.BuildLaws.{lines_long, leaders_long}
-use Rattle.promises.specs.Rules.{Kind, kind_number, image, leader, Due, Follow}
-use Rattle.promises.specs.Newest.{Accepted, promised, line_due}
+use Rattle.promises.specs.Rules.{image, leader}
+use Rattle.promises.specs.Newest.{Accepted}
 use Rattle.promises.specs.Shown.{line_record, left_fill, data_count, data_start, Stands}
-use Rattle.promises.proofs.Accepts.{planned, follow_length, plan_counts, complete_accepted}
+use Rattle.promises.proofs.Accepts.{planned}
 use Rattle.promises.proofs.AcceptedLines.{accepted_lines}
-use Rattle.promises.proofs.LaterIs.{promised_length}
 use Rattle.promises.proofs.LineNamed.{stands_shown}
-use Rattle.lines.specs.View.{view_of}
-use Rattle.lines.specs.declared.View.TheVariants as view
+use Rattle.lines.specs.View.{view_of, shown_view}
 use Rattle.card_theorems.specs.Scene.{scene_of}
 use Rattle.card_theorems.specs.Refused.{long_of}
 use Rattle.card_theorems.proofs.Once.{card_checked, numbers_are}
-use Rattle.card_theorems.proofs.Files.{File, file, records}
+use Rattle.card_theorems.proofs.Files.{file, records}
 use Rattle.card_theorems.proofs.Built.{built_card}
 
 -- ---- the card's length
@@ -102,7 +91,7 @@ module _ (bs ls : List ℕ) (a : Accepted image bs) (b : Accepted leader ls) whe
 
   -- where it fits, it is written, and it reads back with the scene's numbers; bytes behind it stay
   pub built_reads : (out : List ℕ) → long_of a b ≤ length out
-      → (built_of bs ls (length out) ≡ built.Bytes (long_of a b))
+      → (built_of bs ls (length out) ≡ Ok (long_of a b))
       × Card (take (long_of a b) (card_of bs ls out)) (scene_of (image_plan bs) (leader_plan ls) bs)
       × (drop (long_of a b) (card_of bs ls out) ≡ drop (long_of a b) out)
   unfolding fitted_of fitted_card
@@ -114,36 +103,35 @@ module _ (bs ls : List ℕ) (a : Accepted image bs) (b : Accepted leader ls) whe
       let c : card_of bs ls out ≡ written out 0 t =
       card_is out ∙ ap (λ (x : Bool). pick x out (written out 0 t)) no in (
         built_is (length out)
-            ∙ ap (λ (x : Bool). pick x (built.Refused (bare_refusal 37)) (built.Bytes (card_long (image_plan bs) (leader_plan ls)))) no
-            ∙ ap built.Bytes e,
+            ∙ ap (λ (x : Bool). pick x (Err (bare_refusal 37)) (Ok (card_long (image_plan bs) (leader_plan ls)))) no
+            ∙ ap Ok e,
         subst (λ (x : List ℕ). Card x (scene_of (image_plan bs) (leader_plan ls) bs))
             (sym (take_written out 0 t (omega arith) (long_of a b) (card_of bs ls out) c (omega arith))) scene_card,
         drop_written out 0 t (omega arith) (long_of a b) (card_of bs ls out) c (omega arith),
       )
 
   -- 37 exactly where the card would not fit
-  pub built_least : (m : ℕ) → (built_of bs ls m ≡ built.Refused (bare_refusal 37)) ↔ (m < long_of a b)
+  pub built_least : (m : ℕ) → (built_of bs ls m ≡ Err (bare_refusal 37)) ↔ (m < long_of a b)
   unfolding fitted_of
   built_least m = (to, from)
     where
-      from : m < long_of a b → built_of bs ls m ≡ built.Refused (bare_refusal 37)
+      from : m < long_of a b → built_of bs ls m ≡ Err (bare_refusal 37)
       from h =
           built_is m
-          ∙ ap (λ (x : Bool). pick x (built.Refused (bare_refusal 37)) (built.Bytes (card_long (image_plan bs) (leader_plan ls))))
+          ∙ ap (λ (x : Bool). pick x (Err (bare_refusal 37)) (Ok (card_long (image_plan bs) (leader_plan ls))))
           (lt-ltb m (card_long (image_plan bs) (leader_plan ls)) (omega (arith, long_is)))
 
-      to : built_of bs ls m ≡ built.Refused (bare_refusal 37) → m < long_of a b
+      to : built_of bs ls m ≡ Err (bare_refusal 37) → m < long_of a b
       to e =
           ⊎_elim (λ t. omega (arith, long_is, ltb-true m (card_long (image_plan bs) (leader_plan ls)) t))
           (λ t.
-          let q : built.Bytes (card_long (image_plan bs) (leader_plan ls)) ≡ built.Refused (bare_refusal 37) =
+          let q : ◌≡◌ {A = Built} (Ok (card_long (image_plan bs) (leader_plan ls))) (Err (bare_refusal 37)) =
           sym (built_is m
-          ∙ ap (λ (x : Bool). pick x (built.Refused (bare_refusal 37)) (built.Bytes (card_long (image_plan bs) (leader_plan ls)))) t) ∙ e in
-          let z : ◌≡◌ {A = ℕ} 0 1 = cc in absurd (omega arith))
+          ∙ ap (λ (x : Bool). pick x (Err (bare_refusal 37)) (Ok (card_long (image_plan bs) (leader_plan ls)))) t) ∙ e in absurd cc)
           (cases (ltb m (card_long (image_plan bs) (leader_plan ls))))
 
   -- the reader of it says as many lines and leader entries as there are, and writes the scene's numbers
-  pub built_read_back : (check_of (card_bytes (image_plan bs) (leader_plan ls) bs) ≡ checked.Card (image_plan bs).n (length (scene_of (image_plan bs)
+  pub built_read_back : (check_of (card_bytes (image_plan bs) (leader_plan ls) bs) ≡ carded (image_plan bs).n (length (scene_of (image_plan bs)
       (leader_plan ls) bs).leaders))
       × (flat_of (image_plan bs).n (length (scene_of (image_plan bs) (leader_plan ls) bs).leaders) (card_bytes (image_plan bs) (leader_plan ls) bs)
       ≡ listed (scene_of (image_plan bs) (leader_plan ls) bs))
@@ -151,7 +139,7 @@ module _ (bs ls : List ℕ) (a : Accepted image bs) (b : Accepted leader ls) whe
 
 -- left fill and data count of a line are what the line view shows
 pub scene_shown : (bs : List ℕ) (a : Accepted image bs) (k : ℕ) → 1 ≤ k → k ≤ (image_plan bs).n
-    → view_of bs k ≡ view.Shown (data_start (image_plan bs) k (line_record (image_plan bs) k bs)) (data_count (line_record (image_plan bs) k bs))
+    → view_of bs k ≡ shown_view (data_start (image_plan bs) k (line_record (image_plan bs) k bs)) (data_count (line_record (image_plan bs) k bs))
     (left_fill (line_record (image_plan bs) k bs))
 scene_shown bs a k h l =
     let f = file image bs a in
@@ -161,7 +149,7 @@ scene_shown bs a k h l =
 
 -- ---- on a refusal every byte stays, whatever the files are
 
-pub refused_stays : (bs ls out : List ℕ) (x : Refusal) → built_of bs ls (length out) ≡ built.Refused x → card_of bs ls out ≡ out
+pub refused_stays : (bs ls out : List ℕ) (x : Refusal) → built_of bs ls (length out) ≡ Err x → card_of bs ls out ≡ out
 unfolding built_of card_of fitted_of fitted_card
 refused_stays bs ls out x e = go (closed plan.image bs).stop (closed plan.leader ls).stop (ltb (length out) (card_long (image_plan bs) (leader_plan ls))) e
   where
@@ -171,18 +159,18 @@ refused_stays bs ls out x e = go (closed plan.image bs).stop (closed plan.leader
     new : List ℕ
     new = written out 0 (card_bytes (image_plan bs) (leader_plan ls) bs)
 
-    fit : (b : Bool) → pick b (built.Refused (bare_refusal 37)) (built.Bytes long) ≡ built.Refused x → pick b out new ≡ out
+    fit : (b : Bool) → pick b (Err (bare_refusal 37)) (Ok long) ≡ Err x → pick b out new ≡ out
     fit true h = refl
-    fit false h = let z : ◌≡◌ {A = ℕ} 0 1 = cc in absurd (omega arith)
+    fit false h = absurd cc
 
-    later : (t : Stop) (b : Bool) → built_behind t (pick b (built.Refused (bare_refusal 37)) (built.Bytes long)) ≡ built.Refused x
+    later : (t : Stop) (b : Bool) → built_behind t (pick b (Err (bare_refusal 37)) (Ok long)) ≡ Err x
         → card_behind t out (pick b out new) ≡ out
     later (stop.Wait n) b h = fit b h
     later stop.Pause b h = fit b h
     later stop.Complete b h = fit b h
     later (stop.Refused r) b h = refl
 
-    go : (s t : Stop) (b : Bool) → built_behind s (built_behind t (pick b (built.Refused (bare_refusal 37)) (built.Bytes long))) ≡ built.Refused x
+    go : (s t : Stop) (b : Bool) → built_behind s (built_behind t (pick b (Err (bare_refusal 37)) (Ok long))) ≡ Err x
         → card_behind s out (card_behind t out (pick b out new)) ≡ out
     go (stop.Wait n) t b h = later t b h
     go stop.Pause t b h = later t b h

@@ -1,15 +1,15 @@
 -- A leader that the rules allow has at most 50 records and ends below 2^32: row by row, as the table of slots bounds counts and lengths.
 use Prim.Native.Nat.{ℕ, zero, suc, ◌+◌, ◌-◌, ◌*◌, ◌^◌, ◌≤◌, ◌<◌}
-use mathlib.Core.Path.{◌≡◌, refl, sym, ap, ◌∙◌, subst}
+use mathlib.Core.Path.{◌≡◌, sym, ap, ◌∙◌, subst}
 use mathlib.Core.List.{List, [], ◌∷◌}
-use mathlib.Core.Bool.{Bool, true, false}
+use mathlib.Core.Bool.{true}
 use mathlib.Core.Logic.{⊎_elim}
 use native.Mathlib.Omega.{arith}
 use native.Mathlib.Nat.{mul-le-mul, mul-le-mul_right, suc-mul, zero-mul}
 use lib.Dec.{eqb, ltb}
 use lib.ListN.{length, get_or}
-use borrow.Author.Tests.{eqb-true, eqb-false, ltb-true, ltb-false, lt-ltb, le-ltb}
-use Rattle.words.specs.Tests.{pick, both_of, within_of}
+use borrow.Author.Tests.{eqb-true, ltb-true, ltb-false}
+use Rattle.words.specs.Tests.{both_of, within_of}
 use Rattle.words.proofs.Laws.{both_l, both_r, cases, within_true, pick_true, pick_false}
 use Rattle.plan.specs.Tables.{slot_of}
 use Rattle.plan.specs.Plan.{leader, plan_good, leader_good, slot_good, slots_good, image_zero?}

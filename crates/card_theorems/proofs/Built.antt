@@ -1,28 +1,23 @@
 -- What was built reads back: the bytes that the builder writes for two accepted files are a card of the scene's numbers.
 use Prim.Native.Nat.{ℕ, zero, suc, ◌+◌, ◌-◌, ◌*◌, ◌/◌, ◌%◌, ◌^◌, ◌≤◌, ◌<◌}
 use mathlib.Core.Path.{◌≡◌, refl, sym, ap, ap₂, ◌∙◌, subst}
-use mathlib.Core.List.{List, [], ◌∷◌, ◌++◌, append_assoc}
+use mathlib.Core.List.{List, [], ◌∷◌, ◌++◌}
 use mathlib.Core.Bool.{true}
-use mathlib.Core.Logic.{◌↔◌}
 use native.Mathlib.Omega.{arith}
 use native.Mathlib.Nat.{suc-mul, zero-mul}
-use lib.ListN.{length, take, drop, length-append}
+use lib.ListN.{length, take, drop}
 use lib.Seq.{get_or-take, get_or-drop}
 use Rattle.words.specs.Tests.{within_of}
 use Rattle.words.specs.Words.{byte_at, four_at, two_at, place_of}
 use Rattle.words.proofs.Laws.{four_bytes, within_true, both_l, both_r}
-use Rattle.writing.specs.Writing.{four_of}
 use Rattle.plan.specs.Plan as plan
 use Rattle.plan.specs.Plan.{total_of, due_of, plan_good, spot_of, image_ranges}
 use Rattle.plan.specs.declared.Plan.{Plan}
 use Rattle.plan.proofs.GoodLaws.{image_within, image_agrees_lem, image_room, image_bounds}
 use Rattle.entry.specs.Entry.{concat}
-use Rattle.card_theorems.specs.Card.{Fill, Span, Numbers, First, Line, Leader, Lines, Leaders, Card}
+use Rattle.card_theorems.specs.Card.{Fill, First, Line, Leader, Lines, Leaders, Card}
 use Rattle.card_build.specs.Build.{first_bytes, line_bytes, leader_bytes, lines_bytes, leaders_bytes, card_bytes}
-use Rattle.promises.specs.Rules.{image, leader, Line as RuleLine}
-use Rattle.promises.specs.Newest.{Accepted}
 use Rattle.promises.specs.Shown.{line_start, line_record, left_fill, data_count, Stands}
-use Rattle.promises.proofs.AcceptedLines.{accepted_lines}
 use Rattle.promises.proofs.Sorts.{group_same, ahead_same}
 use Rattle.promises.proofs.Starts.{end_to_end}
 use Rattle.card_theorems.specs.Scene.{fills_of, spans_of, scene_of}

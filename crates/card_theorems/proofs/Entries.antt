@@ -2,22 +2,23 @@
 -- test is what its entry must say.
 use Prim.Native.Nat.{ℕ, zero, suc, ◌+◌, ◌*◌, ◌≤◌, ◌<◌}
 use mathlib.Core.Path.{◌≡◌, refl, sym, ap, ap₂, ◌∙◌, subst}
-use mathlib.Core.List.{List, [], ◌∷◌, ◌++◌}
+use mathlib.Core.List.{List, ◌++◌}
 use mathlib.Core.Bool.{Bool, true, false, false≢true}
-use mathlib.Core.Logic.{◌⊎◌, inl, inr, ⊎_elim}
+use mathlib.Core.Logic.{inl, inr, ⊎_elim}
 use native.Mathlib.Omega.{arith}
 use lib.Dec.{eqb, leb}
-use lib.ListN.{length, take, drop, get_or, take-append-drop, length-append, get_or-append}
+use lib.ListN.{length, take, drop, take-append-drop, length-append, get_or-append}
 use lib.Seq.{length-take-le}
 use borrow.Author.Tests.{eq-eqb, ne_eqb, eqb-true, eqb-false, lt-ltb, le-ltb, ltb-true, ltb-false, leb-true, le-leb}
+use Rattle.std.specs.Prelude.{Ok, Err}
 use Rattle.words.specs.Tests.{pick, both_of, within_of}
 use Rattle.words.specs.Words.{byte_at, four_at}
 use Rattle.words.proofs.Laws.{four_bytes, both_l, both_r, both_make, cases, within_true, true_within}
 use Rattle.plan.specs.Tables.{last_sort, sort_of as sort_of'}
 use Rattle.plan.specs.Plan.{group_of, ahead_of, plan_good, image_good, image_ranges, image_agrees, slots_zero?, all_zero}
 use Rattle.plan.specs.declared.Plan.{Plan}
-use Rattle.entry.specs.Entry.{Entry, kind_of, whole_of}
-use Rattle.card_theorems.specs.Card.{Fill, Span, First, Line, Leader, Kind, Wrong, unknown, cut, order, Missing, IsFirst, IsLine, IsLeader}
+use Rattle.entry.specs.Entry.{kind_of, whole_of}
+use Rattle.card_theorems.specs.Card.{First, Kind, Wrong, unknown, cut, order, Missing, IsFirst, IsLine, IsLeader}
 use Rattle.promises.specs.Rules.{sort_of}
 use Rattle.promises.proofs.Sorts.{group_same, ahead_same}
 use Rattle.cards.specs.Check.{body_of, fault_of, sort_by, plan_from, first_holds, line_holds, leader_holds}
@@ -71,15 +72,15 @@ pub record Judges (want body : ℕ) (Is : List ℕ → Type 0) (holds : List ℕ
 
 module _ {want body : ℕ} {Is : List ℕ → Type 0} {holds : List ℕ → Bool} (j : Judges want body Is holds) where
   -- an entry that is as it must be passes, whatever follows
-  pub entry_passes : (r left : List ℕ) → Is r → fault_of want (holds (r ++ left)) (r ++ left) ≡ 0
+  pub entry_passes : (r left : List ℕ) → Is r → fault_of want (holds (r ++ left)) (r ++ left) ≡ Ok tt
   entry_passes r left i =
       let s = j.size r i in
       let long = length-append r left in
       let k : kind_of (r ++ left) ≡ want = byte_front r left 0 (omega arith) ∙ j.kind r i in
       let b : body_of (kind_of (r ++ left)) ≡ body = ap body_of k ∙ kind_body want body j.known in
-      sym (fault_by want (holds (r ++ left)) (r ++ left) (λ z. omega arith) (λ z. kind_some want body j.known (sym b ∙ z)) true
+      fault_by want (holds (r ++ left)) (r ++ left) (λ z. omega arith) (λ z. kind_some want body j.known (sym b ∙ z)) true
       (ap (λ (x : ℕ). whole_of x (r ++ left)) b ∙ lt-ltb body (length (r ++ left)) (omega arith))
-      (both_make _ _ (eq-eqb (kind_of (r ++ left)) want k) (j.front r left s ∙ j.from r i)))
+      (both_make _ _ (eq-eqb (kind_of (r ++ left)) want k) (j.front r left s ∙ j.from r i))
 
   whole_cut : (bs : List ℕ) → 1 + body ≤ length bs → holds bs ≡ holds (take (1 + body) bs)
   whole_cut bs h = ap holds (sym (take-append-drop (1 + body) bs)) ∙ j.front (take (1 + body) bs) (drop (1 + body) bs) (length-take-le (1 + body) bs h)
@@ -90,28 +91,31 @@ module _ {want body : ℕ} {Is : List ℕ → Type 0} {holds : List ℕ → Bool
       ∙ ap kind_of (take-append-drop (1 + body) bs)
 
   -- one that passes is as it must be
-  pub passes_is : (bs : List ℕ) → fault_of want (holds bs) bs ≡ 0 → (1 + body ≤ length bs) × Is (take (1 + body) bs)
+  pub passes_is : (bs : List ℕ) → fault_of want (holds bs) bs ≡ Ok tt → (1 + body ≤ length bs) × Is (take (1 + body) bs)
   passes_is bs e =
       let p = passes want (holds bs) bs e in
       let h : 1 + body ≤ length bs = subst (λ (b : ℕ). 1 + b ≤ length bs) (kind_body want body j.known) p.whole in
       (h, j.to (take (1 + body) bs) (length-take-le (1 + body) bs h) (kind_cut bs h ∙ p.kind) (sym (whole_cut bs h) ∙ p.holds'))
 
   -- a fault is the first thing wrong
-  pub fault_wrong : (bs : List ℕ) (m : ℕ) → fault_of want (holds bs) bs ≡ m → (m ≡ 0 → ⊥) → Missing Is bs m
-  fault_wrong bs m e z =
-      ⊎_elim (λ a. let l = eqb-true (length bs) 0 a in inl (l, sym e ∙ sym (fault_none want (holds bs) bs l)))
+  pub fault_wrong : (bs : List ℕ) (m : ℕ) → fault_of want (holds bs) bs ≡ Err m → Missing Is bs m
+  fault_wrong bs m e =
+      ⊎_elim (λ a. let l = eqb-true (length bs) 0 a in inl (l, is (fault_none want (holds bs) bs l)))
       (λ a. inr (some (eqb-false (length bs) 0 a))) (cases (eqb (length bs) 0))
     where
+      is : {k : ℕ} → fault_of want (holds bs) bs ≡ Err k → m ≡ k
+      is q = cc
+
       whole : (length bs ≡ 0 → ⊥) → (known : body_of (kind_of bs) ≡ 0 → ⊥) → (t : Bool) → whole_of (body_of (kind_of bs)) bs ≡ true
           → both_of (eqb (kind_of bs) want) (holds bs) ≡ t → Wrong Is bs m
-      whole n known true w q = absurd (z (sym e ∙ sym (fault_by want (holds bs) bs n known true w q)))
+      whole n known true w q = let p = fault_by want (holds bs) bs n known true w q in absurd cc
       whole n known false w q =
           let l = ltb-true (body_of (kind_of bs)) (length bs) w in
-          order (body_of (kind_of bs)) (body_kind (kind_of bs) known) (omega arith) (λ i. false≢true (sym q ∙ is i))
-          (sym e ∙ sym (fault_by want (holds bs) bs n known false w q))
+          order (body_of (kind_of bs)) (body_kind (kind_of bs) known) (omega arith) (λ i. false≢true (sym q ∙ holding i))
+          (is (fault_by want (holds bs) bs n known false w q))
         where
-          is : Is (take (1 + body_of (kind_of bs)) bs) → both_of (eqb (kind_of bs) want) (holds bs) ≡ true
-          is i =
+          holding : Is (take (1 + body_of (kind_of bs)) bs) → both_of (eqb (kind_of bs) want) (holds bs) ≡ true
+          holding i =
               let l = ltb-true (body_of (kind_of bs)) (length bs) w in
               let s = j.size (take (1 + body_of (kind_of bs)) bs) i in
               let b : body_of (kind_of bs) ≡ body = omega (arith, length-take-le (1 + body_of (kind_of bs)) bs (omega arith), s) in
@@ -124,40 +128,38 @@ module _ {want body : ℕ} {Is : List ℕ → Type 0} {holds : List ℕ → Bool
       known n k =
           ⊎_elim (λ w. whole n k (both_of (eqb (kind_of bs) want) (holds bs)) w refl)
           (λ w. cut (body_of (kind_of bs)) (omega arith) (body_kind (kind_of bs) k) (omega (arith, ltb-false (body_of (kind_of bs)) (length bs) w))
-          (sym e ∙ sym (fault_cut want (holds bs) bs n k w))) (cases (whole_of (body_of (kind_of bs)) bs))
+          (is (fault_cut want (holds bs) bs n k w))) (cases (whole_of (body_of (kind_of bs)) bs))
 
       some : (length bs ≡ 0 → ⊥) → Wrong Is bs m
       some n =
           ⊎_elim
           (λ a. let b = eqb-true (body_of (kind_of bs)) 0 a in
           unknown (omega arith) (λ body' k. kind_some (kind_of bs) body' k (sym (kind_body (kind_of bs) body' k) ∙ b))
-          (sym e ∙ sym (fault_unknown want (holds bs) bs n b)))
+          (is (fault_unknown want (holds bs) bs n b)))
           (λ a. known n (eqb-false (body_of (kind_of bs)) 0 a)) (cases (eqb (body_of (kind_of bs)) 0))
 
   -- and the other way: what is first wrong is the fault
-  pub wrong_fault : (bs : List ℕ) (m : ℕ) → Wrong Is bs m → (fault_of want (holds bs) bs ≡ m) × (m ≡ 0 → ⊥)
+  pub wrong_fault : (bs : List ℕ) (m : ℕ) → Wrong Is bs m → fault_of want (holds bs) bs ≡ Err m
   wrong_fault bs m (unknown n h q) =
       let b : body_of (kind_of bs) ≡ 0 =
       ⊎_elim (λ a. eqb-true (body_of (kind_of bs)) 0 a) (λ a. absurd (h (body_of (kind_of bs)) (body_kind (kind_of bs) (eqb-false (body_of (kind_of bs)) 0 a))))
       (cases (eqb (body_of (kind_of bs)) 0)) in
-      (sym (fault_unknown want (holds bs) bs (λ z. omega arith) b) ∙ sym q, λ z. omega arith)
+      fault_unknown want (holds bs) bs (λ z. omega arith) b ∙ ap Err (sym q)
   wrong_fault bs m (cut b n k s q) =
-      let e = kind_body (kind_of bs) b k in (
-        sym (fault_cut want (holds bs) bs (λ z. omega arith) (λ z. kind_some (kind_of bs) b k (sym e ∙ z))
-            (le-ltb (body_of (kind_of bs)) (length bs) (omega arith))) ∙ sym q,
-        λ z. omega arith,
-      )
+      let e = kind_body (kind_of bs) b k in
+      fault_cut want (holds bs) bs (λ z. omega arith) (λ z. kind_some (kind_of bs) b k (sym e ∙ z))
+      (le-ltb (body_of (kind_of bs)) (length bs) (omega arith)) ∙ ap Err (sym q)
   wrong_fault bs m (order b k s n q) =
       let e = kind_body (kind_of bs) b k in
       let w = lt-ltb (body_of (kind_of bs)) (length bs) (omega arith) in
       let known : body_of (kind_of bs) ≡ 0 → ⊥ = λ z. kind_some (kind_of bs) b k (sym e ∙ z) in
-      (go (both_of (eqb (kind_of bs) want) (holds bs)) refl known w ∙ sym q, λ z. omega arith)
+      go (both_of (eqb (kind_of bs) want) (holds bs)) refl known w ∙ ap Err (sym q)
     where
       go : (t : Bool) → both_of (eqb (kind_of bs) want) (holds bs) ≡ t → (body_of (kind_of bs) ≡ 0 → ⊥) → whole_of (body_of (kind_of bs)) bs ≡ true
-          → fault_of want (holds bs) bs ≡ 22
-      go false p known w = sym (fault_by want (holds bs) bs (λ z. omega arith) known false w p)
+          → fault_of want (holds bs) bs ≡ Err 22
+      go false p known w = fault_by want (holds bs) bs (λ z. omega arith) known false w p
       go true p known w =
-          let fine = sym (fault_by want (holds bs) bs (λ z. omega arith) known true w p) in
+          let fine = fault_by want (holds bs) bs (λ z. omega arith) known true w p in
           let r = passes_is bs fine in
           let same : b ≡ body =
           sym (kind_body (kind_of bs) b k)
@@ -165,9 +167,9 @@ module _ {want body : ℕ} {Is : List ℕ → Type 0} {holds : List ℕ → Bool
           ∙ kind_body want body j.known in
           absurd (n (subst (λ (x : ℕ). Is (take (1 + x) bs)) (sym same) r.1))
 
-  pub missing_fault : (bs : List ℕ) (m : ℕ) → Missing Is bs m → (fault_of want (holds bs) bs ≡ m) × (m ≡ 0 → ⊥)
+  pub missing_fault : (bs : List ℕ) (m : ℕ) → Missing Is bs m → fault_of want (holds bs) bs ≡ Err m
   missing_fault bs m h =
-      ⊎_elim (λ a. (sym (fault_none want (holds bs) bs a.0) ∙ sym a.1, λ z. omega (arith, a.1))) (wrong_fault bs m) h
+      ⊎_elim (λ a. fault_none want (holds bs) bs a.0 ∙ ap Err (sym a.1)) (wrong_fault bs m) h
 
 -- ---- the three kinds
 

@@ -1,7 +1,7 @@
 -- An accepted file's closed walk ends complete, and its plan is the one that the first record names, by the rules and by the state rule.
-use Prim.Native.Nat.{ℕ, zero, suc, ◌+◌, ◌≤◌, ◌<◌}
+use Prim.Native.Nat.{ℕ, suc, ◌≤◌, ◌<◌}
 use mathlib.Core.Path.{◌≡◌, refl, sym, ap, ◌∙◌, subst}
-use mathlib.Core.List.{List, ◌++◌}
+use mathlib.Core.List.{List}
 use mathlib.Core.Bool.{true}
 use native.Mathlib.Omega.{arith}
 use lib.ListN.{length, take, length-append}
@@ -10,12 +10,10 @@ use Rattle.plan.specs.Plan.{zero_plan, first_length, total_of, plan_good}
 use Rattle.plan.specs.declared.Plan.{Plan}
 use Rattle.plan.proofs.Bounds.{small_good, total_small}
 use Rattle.walk.specs.State.{fresh}
-use Rattle.walk.specs.Walk.{walk_of, turn_of, next_of}
 use Rattle.walk.specs.declared.State.{State}
 use Rattle.walk.specs.declared.Walked.{Walked}
 use Rattle.walk.proofs.LoopLaws.{walk_pass}
 use Rattle.turns.specs.declared.Stop.TheVariants.{Complete}
-use Rattle.turns.specs.declared.Turn.TheVariants.{Pass}
 use Rattle.card_build.specs.Build.{closed}
 use Rattle.promises.specs.Rules.{Kind, kind_number, Due, Follow, concat}
 use Rattle.promises.specs.Newest.{First, promised, Accepted}

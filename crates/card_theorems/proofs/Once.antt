@@ -1,30 +1,28 @@
 -- A card has one reading, and the reader gives exactly its numbers; bytes that are no card are refused with the first thing wrong, at its place.
-use Prim.Native.Nat.{ℕ, zero, suc, ◌+◌, ◌-◌, ◌*◌, ◌≤◌, ◌<◌}
+use Prim.Native.Nat.{ℕ, suc, ◌+◌, ◌-◌, ◌*◌, ◌≤◌, ◌<◌}
 use mathlib.Core.Path.{◌≡◌, refl, sym, ap, ap₂, ◌∙◌, subst}
 use mathlib.Core.List.{List, [], ◌∷◌, ◌++◌, append_assoc, append-nil}
-use mathlib.Core.Bool.{Bool, true, false}
 use mathlib.Core.Logic.{◌⊎◌, ◌↔◌, inl, inr, ⊎_elim}
 use native.Mathlib.Omega.{arith}
-use lib.IntN.{pos}
 use lib.ListN.{length, take, drop, length-append, take-append-drop}
-use lib.Seq.{drop_at, get_or-append-add, length-take-le}
+use lib.Seq.{drop_at, get_or-append-add}
+use Rattle.std.specs.Prelude.{Result, Ok, Err}
 use Rattle.words.specs.Words.{byte_at, four_at}
 use Rattle.words.specs.Answer.{Answer, refusal_at, bare_refusal, refused_as}
 use Rattle.words.specs.declared.Refusal.{Refusal}
 use Rattle.refusals.proofs.Said.{refusal_said}
 use Rattle.words.proofs.Laws.{four_bytes}
 use Rattle.entry.specs.Entry.{concat}
-use Rattle.card_theorems.specs.Card.{Fill, Span, Numbers, First, Lines, Leaders, Card, Missing, Wrong, IsFirst, IsLine, IsLeader}
+use Rattle.card_theorems.specs.Card.{Fill, Span, Numbers, First, Lines, Leaders, Card, Missing, Wrong, IsLine, IsLeader}
 use Rattle.card_theorems.specs.Card.{longs, fill_list, span_list, listed, CardRefuses, first, line, leader}
-use Rattle.cards.specs.Check.{fault_of, judged, refused_with, first_holds, lines_of, leaders_of, behind_lines, check_behind, check_of, pairs_from, flat_of}
+use Rattle.cards.specs.Check.{Checked, carded, fault_of, judged, first_holds, lines_of, leaders_of, behind_lines, check_behind, check_of, pairs_from, flat_of}
 use Rattle.cards.specs.Check.{many_of, numbers_of, list_of}
 use Rattle.cards.specs.Said.{checked_as}
+use Rattle.cards.specs.declared.Card.{Card as Read}
 use Rattle.cards.proofs.LoopLaws.{pairs_long}
 use Rattle.cards.proofs.NumbersLaws.{refused_answer, refused_list, short_answer, short_list, card_answer, card_list}
 use Rattle.writing.specs.Writing.{written}
-use Rattle.cards.specs.declared.Checked.{Checked}
-use Rattle.cards.specs.declared.Checked.TheVariants as checked
-use Rattle.card_theorems.proofs.Entries.{byte_front, four_front, entry_passes, passes_is, fault_wrong, missing_fault, judges_first}
+use Rattle.card_theorems.proofs.Entries.{four_front, entry_passes, passes_is, fault_wrong, missing_fault, judges_first}
 use Rattle.card_theorems.proofs.Parts.{lines_pass, lines_refuse, Said, lines_said, leaders_pass, leaders_end, leaders_refuse, Told, leaders_told}
 
 -- ---- kind 1, and what stands behind it
@@ -35,13 +33,13 @@ lines_long w k [] (f ∷ fs) ls = absurd ls
 lines_long w k (r ∷ rs) [] ls = absurd ls
 lines_long w k (r ∷ rs) (f ∷ fs) ls = omega (arith, length-append r (concat rs), ls.0.is.size, lines_long w (suc k) rs fs ls.1)
 
-lines_none : (k w at : ℕ) (left : List ℕ) → lines_of 0 k w at left ≡ checked.Card k 0
+lines_none : (k w at : ℕ) (left : List ℕ) → lines_of 0 k w at left ≡ Ok tt
 unfolding lines_of
 lines_none k w at left = refl
 
 -- bytes that begin with a kind 1 as it must be are judged by what is behind it
 module _ (r rest : List ℕ) (n l w d : ℕ) (f : First r n l w d) where
-  first_fine : fault_of 1 (first_holds (r ++ rest)) (r ++ rest) ≡ 0
+  first_fine : fault_of 1 (first_holds (r ++ rest)) (r ++ rest) ≡ Ok tt
   first_fine = entry_passes judges_first r rest (n, l, w, d, f)
 
   says_lines : four_at (r ++ rest) 1 ≡ n
@@ -54,7 +52,7 @@ module _ (r rest : List ℕ) (n l w d : ℕ) (f : First r n l w d) where
       ≡ behind_lines (lines_of n 0 w 17 rest) (leaders_of (length (r ++ rest)) n 0 0 (17 + 13 * n) (drop (17 + 13 * n) (r ++ rest)))
   unfolding check_of
   check_first =
-      ap (λ (i : ℕ). judged i 0 (check_behind (r ++ rest))) first_fine
+      ap (λ (i : Result (Unit {0}) ℕ). judged i 0 (check_behind (r ++ rest))) first_fine
       ∙ ap (λ (x : List ℕ). behind_lines (lines_of (four_at (r ++ rest) 1) 0 (four_at (r ++ rest) 9) 17 x)
       (leaders_of (length (r ++ rest)) (four_at (r ++ rest) 1) 0 0 (17 + 13 * four_at (r ++ rest) 1) (drop (17 + 13 * four_at (r ++ rest) 1) (r ++ rest))))
       (drop_at r rest 17 f.is.size)
@@ -65,18 +63,18 @@ module _ (r rest : List ℕ) (n l w d : ℕ) (f : First r n l w d) where
 -- the lines as well
 module _ (r : List ℕ) (n l w d : ℕ) (rs : List (List ℕ)) (fs : List Fill) (left : List ℕ) (f : First r n l w d) (ls : Lines w 1 rs fs) where
   check_short : (m : ℕ) → length fs < n → Missing (IsLine w (suc (length fs))) left m
-      → check_of (r ++ (concat rs ++ left)) ≡ refused_with m (length r + length (concat rs))
+      → check_of (r ++ (concat rs ++ left)) ≡ Err (refusal_at m (length r + length (concat rs)))
   check_short m h g =
       let j : ℕ = n - suc (length fs) in
       let e : n ≡ length fs + suc j = omega arith in
       let s = f.is.size in
       check_first r (concat rs ++ left) n l w d f
-      ∙ ap (λ (x : Checked). behind_lines x (leaders_of (length (r ++ (concat rs ++ left))) n 0 0 (17 + 13 * n) (drop (17 + 13 * n) (r ++
+      ∙ ap (λ (x : Result (Unit {0}) Refusal). behind_lines x (leaders_of (length (r ++ (concat rs ++ left))) n 0 0 (17 + 13 * n) (drop (17 + 13 * n) (r ++
       (concat rs ++ left)))))
       (lines_pass w 0 17 n (suc j) rs fs left e ls
       ∙ ap (λ (i : ℕ). lines_of (suc j) i w (17 + length (concat rs)) left) (let q : 0 + length fs ≡ length fs = omega arith in q)
       ∙ lines_refuse w (length fs) (17 + length (concat rs)) j m left g)
-      ∙ ap (refused_with m) (let q : 17 + length (concat rs) ≡ length r + length (concat rs) = omega arith in q)
+      ∙ ap (λ (i : ℕ). Err (refusal_at m i)) (let q : 17 + length (concat rs) ≡ length r + length (concat rs) = omega arith in q)
 
   check_lines : length fs ≡ n → check_of (r ++ (concat rs ++ left)) ≡ leaders_of (length (r ++ (concat rs ++ left))) n 0 0 (17 + 13 * n) left
   check_lines h =
@@ -85,7 +83,7 @@ module _ (r : List ℕ) (n l w d : ℕ) (rs : List (List ℕ)) (fs : List Fill) 
       let e : n ≡ length fs + 0 = omega arith in
       let at : length (r ++ concat rs) ≡ 17 + 13 * n = length-append r (concat rs) ∙ (omega arith) in
       check_first r (concat rs ++ left) n l w d f
-      ∙ ap (λ (x : Checked). behind_lines x (leaders_of (length (r ++ (concat rs ++ left))) n 0 0 (17 + 13 * n) (drop (17 + 13 * n) (r ++
+      ∙ ap (λ (x : Result (Unit {0}) Refusal). behind_lines x (leaders_of (length (r ++ (concat rs ++ left))) n 0 0 (17 + 13 * n) (drop (17 + 13 * n) (r ++
       (concat rs ++ left)))))
       (lines_pass w 0 17 n 0 rs fs left e ls ∙ lines_none (0 + length fs) w (17 + length (concat rs)) left)
       ∙ ap (leaders_of (length (r ++ (concat rs ++ left))) n 0 0 (17 + 13 * n))
@@ -93,8 +91,13 @@ module _ (r : List ℕ) (n l w d : ℕ) (rs : List (List ℕ)) (fs : List Fill) 
 
 -- ---- a card is read
 
+same_counts : (n k m j : ℕ) → carded n k ≡ carded m j → (n ≡ m) × (k ≡ j)
+same_counts n k m j e =
+    let r : ◌≡◌ {A = Read} (record { lines = n; entries = k }) (record { lines = m; entries = j }) = cc in
+    (ap (λ (x : Read). x.lines) r, ap (λ (x : Read). x.entries) r)
+
 -- the reader finds a card's lines and leader entries
-pub card_checked : (bs : List ℕ) (x : Numbers) → Card bs x → check_of bs ≡ checked.Card x.n (length x.leaders)
+pub card_checked : (bs : List ℕ) (x : Numbers) → Card bs x → check_of bs ≡ carded x.n (length x.leaders)
 card_checked bs x c =
     let rest : List ℕ = concat c.leaders ++ [] in
     let e : c.first ++ (concat c.lines ++ rest) ≡ bs = ap (λ (y : List ℕ). c.first ++ (concat c.lines ++ y)) (append-nil (concat c.leaders))
@@ -107,20 +110,15 @@ card_checked bs x c =
     ∙ check_lines c.first x.n x.l x.w x.d c.lines x.lines rest c.begins c.each c.every
     ∙ p.2
     ∙ leaders_end x.n _ (0 + length x.leaders) _ p.0
-    ∙ ap (checked.Card x.n) (let q : 0 + length x.leaders ≡ length x.leaders = omega arith in q)
+    ∙ ap (carded x.n) (let q : 0 + length x.leaders ≡ length x.leaders = omega arith in q)
 
 -- bytes that are no card are refused so
-pub refuses_checked : (bs : List ℕ) (x : Refusal) → CardRefuses bs x → check_of bs ≡ checked.Refused x
+pub refuses_checked : (bs : List ℕ) (x : Refusal) → CardRefuses bs x → check_of bs ≡ Err x
 unfolding check_of
 refuses_checked bs x (first m h e) =
-    let f = missing_fault judges_first bs m h in
-    ap (λ (i : ℕ). judged i 0 (check_behind bs)) f.0 ∙ wrong m f.1 ∙ ap checked.Refused (sym e)
-  where
-    wrong : (i : ℕ) → (i ≡ 0 → ⊥) → judged i 0 (check_behind bs) ≡ refused_with i 0
-    wrong zero z = absurd (z refl)
-    wrong (suc i) z = refl
+    ap (λ (i : Result (Unit {0}) ℕ). judged i 0 (check_behind bs)) (missing_fault judges_first bs m h) ∙ ap Err (sym e)
 refuses_checked bs x (line r n l w d rs fs left m f ls h e g q) =
-    ap check_of (sym e) ∙ check_short r n l w d rs fs left f ls m h g ∙ ap checked.Refused (sym q)
+    ap check_of (sym e) ∙ check_short r n l w d rs fs left f ls m h g ∙ ap Err (sym q)
 refuses_checked bs x (leader r n l w d rs fs es ss left m f ls h fo e g q) =
     let rest : List ℕ = concat es ++ left in
     let whole : List ℕ = r ++ (concat rs ++ rest) in
@@ -132,8 +130,8 @@ refuses_checked bs x (leader r n l w d rs fs es ss left m f ls h fo e g q) =
     ∙ check_lines r n l w d rs fs rest f ls h
     ∙ p.2
     ∙ leaders_refuse n (0 + longs ss) (0 + length ss) (17 + 13 * n + length (concat es)) p.0 m left p.1 (same g)
-    ∙ ap (refused_with m) at
-    ∙ ap checked.Refused (sym q)
+    ∙ ap (λ (i : ℕ). Err (refusal_at m i)) at
+    ∙ ap Err (sym q)
   where
     same : Wrong (IsLeader (longs ss) (suc (length ss))) left m → Wrong (IsLeader (0 + longs ss) (suc (0 + length ss))) left m
     same g =
@@ -192,40 +190,39 @@ module _ (bs : List ℕ) where
   pub card_or_refused : Either
   card_or_refused = go (fault_of 1 (first_holds bs) bs) refl
     where
-      go : (m : ℕ) → fault_of 1 (first_holds bs) bs ≡ m → Either
-      go zero e =
+      go : (f : Result (Unit {0}) ℕ) → fault_of 1 (first_holds bs) bs ≡ f → Either
+      go (Ok u) e =
           let p = passes_is judges_first bs e in
           behind_first_lem (take 17 bs) p.1.0 p.1.1 p.1.2 p.1.3 p.1.4 (drop 17 bs) (take-append-drop 17 bs)
           (lines_said p.1.0 0 p.1.2 17 (drop 17 bs))
-      go (suc m) e = inr (refusal_at (suc m) 0, first (suc m) (fault_wrong judges_first bs (suc m) e (λ z. omega arith)) refl)
+      go (Err m) e = inr (refusal_at m 0, first m (fault_wrong judges_first bs m e) refl)
 
-  refused_same : (x y : Refusal) → ◌≡◌ {A = Checked} (checked.Refused x) (checked.Refused y) → x ≡ y
+  refused_same : (x y : Refusal) → ◌≡◌ {A = Checked} (Err x) (Err y) → x ≡ y
   refused_same x y e = cc
 
-  not_both : (n k : ℕ) (x : Refusal) → ◌≡◌ {A = Checked} (checked.Card n k) (checked.Refused x) → ⊥
-  not_both n k x e = let z : ◌≡◌ {A = ℕ} 0 1 = cc in omega arith
+  not_both : (n k : ℕ) (x : Refusal) → ◌≡◌ {A = Checked} (carded n k) (Err x) → ⊥
+  not_both n k x e = absurd cc
 
   -- bytes are refused with x exactly where x is the first thing wrong, at its entry's start
-  pub refuses_exactly : (x : Refusal) → (check_of bs ≡ checked.Refused x) ↔ CardRefuses bs x
+  pub refuses_exactly : (x : Refusal) → (check_of bs ≡ Err x) ↔ CardRefuses bs x
   refuses_exactly x = (to, refuses_checked bs x)
     where
-      to : check_of bs ≡ checked.Refused x → CardRefuses bs x
+      to : check_of bs ≡ Err x → CardRefuses bs x
       to e =
           ⊎_elim (λ c. absurd (not_both c.0.n (length c.0.leaders) x (sym (card_checked bs c.0 c.1) ∙ e)))
           (λ r. subst (CardRefuses bs) (refused_same r.0 x (sym (refuses_checked bs r.0 r.1) ∙ e)) r.1) card_or_refused
 
   -- they are read as a card of so many lines and leader entries exactly where they are one
-  pub reads_exactly : (n k : ℕ) → (check_of bs ≡ checked.Card n k) ↔ ((x : Numbers) × Card bs x × (x.n ≡ n) × (length x.leaders ≡ k))
-  reads_exactly n k = (to, λ c. card_checked bs c.0 c.1 ∙ ap₂ checked.Card c.2 c.3)
+  pub reads_exactly : (n k : ℕ) → (check_of bs ≡ carded n k) ↔ ((x : Numbers) × Card bs x × (x.n ≡ n) × (length x.leaders ≡ k))
+  reads_exactly n k = (to, λ c. card_checked bs c.0 c.1 ∙ ap₂ carded c.2 c.3)
     where
-      to : check_of bs ≡ checked.Card n k → (x : Numbers) × Card bs x × (x.n ≡ n) × (length x.leaders ≡ k)
+      to : check_of bs ≡ carded n k → (x : Numbers) × Card bs x × (x.n ≡ n) × (length x.leaders ≡ k)
       to e =
           ⊎_elim
           (λ c.
-          let q : checked.Card c.0.n (length c.0.leaders) ≡ checked.Card n k = sym (card_checked bs c.0 c.1) ∙ e in
-          let a : c.0.n ≡ n = cc in
-          let b : length c.0.leaders ≡ k = cc in
-          (c.0, c.1, a, b))
+          let q : carded c.0.n (length c.0.leaders) ≡ carded n k = sym (card_checked bs c.0 c.1) ∙ e in
+          let s = same_counts _ _ _ _ q in
+          (c.0, c.1, s.0, s.1))
           (λ r. absurd (not_both n k r.0 (sym e ∙ refuses_checked bs r.0 r.1))) card_or_refused
 
 -- ---- the numbers
@@ -339,9 +336,10 @@ spans_same (f ∷ a) (g ∷ b) e =
 -- no two readings of one card
 pub card_once : (bs : List ℕ) (x y : Numbers) → Card bs x → Card bs y → x ≡ y
 card_once bs x y c d =
-    let k : checked.Card x.n (length x.leaders) ≡ checked.Card y.n (length y.leaders) = sym (card_checked bs x c) ∙ card_checked bs y d in
-    let n : x.n ≡ y.n = cc in
-    let m : length x.leaders ≡ length y.leaders = cc in
+    let k : carded x.n (length x.leaders) ≡ carded y.n (length y.leaders) = sym (card_checked bs x c) ∙ card_checked bs y d in
+    let same = same_counts _ _ _ _ k in
+    let n = same.0 in
+    let m = same.1 in
     let e : listed x ≡ listed y = sym (numbers_are bs x c) ∙ ap₂ (λ (i j : ℕ). flat_of i j bs) n m ∙ numbers_are bs y d in
     let l : x.l ≡ y.l = cc in
     let w : x.w ≡ y.w = cc in
@@ -355,11 +353,11 @@ card_once bs x y c d =
 
 -- ---- in the words of the answer
 
-checked_refused : (y : Checked) (x : Refusal) → checked_as y ≡ refused_as x → y ≡ checked.Refused x
-checked_refused (checked.Card n k) x e =
+checked_refused : (y : Checked) (x : Refusal) → checked_as y ≡ refused_as x → y ≡ Err x
+checked_refused (Ok c) x e =
     let w = ap (λ (a : Answer). a.word) e in
     let z : ◌≡◌ {A = ℕ} 0 1 = cc in absurd (omega arith)
-checked_refused (checked.Refused y) x e = ap checked.Refused (refusal_said y x e)
+checked_refused (Err y) x e = ap Err (refusal_said y x e)
 
 -- who gets which refusal of the card reader, in both directions
 pub card_refuses : (bs : List ℕ) (x : Refusal) → (checked_as (check_of bs) ≡ refused_as x) ↔ CardRefuses bs x
@@ -381,26 +379,26 @@ listed_long bs x c =
 
 -- a card's numbers are written where the list has room for them, and numbers past them stay; else 37, and all stay
 pub numbers_written : (bs out : List ℕ) (x : Numbers) → Card bs x → length (listed x) ≤ length out
-    → (numbers_of bs (length out) ≡ checked.Card x.n (length x.leaders)) × (list_of bs out ≡ written out 0 (listed x))
+    → (numbers_of bs (length out) ≡ carded x.n (length x.leaders)) × (list_of bs out ≡ written out 0 (listed x))
 numbers_written bs out x c h =
     let q = card_checked bs x c in
     let l : many_of x.n (length x.leaders) ≤ length out = omega (arith, listed_long bs x c) in (
-      sym (card_answer bs out (check_of bs) refl x.n (length x.leaders) q l),
-      sym (card_list bs out (check_of bs) refl x.n (length x.leaders) q l) ∙ ap (written out 0) (numbers_are bs x c),
+      sym (card_answer bs out (check_of bs) refl _ q l),
+      sym (card_list bs out (check_of bs) refl _ q l) ∙ ap (written out 0) (numbers_are bs x c),
     )
 
 pub numbers_short : (bs out : List ℕ) (x : Numbers) → Card bs x → length out < length (listed x)
-    → (numbers_of bs (length out) ≡ checked.Refused (bare_refusal 37)) × (list_of bs out ≡ out)
+    → (numbers_of bs (length out) ≡ Err (bare_refusal 37)) × (list_of bs out ≡ out)
 numbers_short bs out x c h =
     let q = card_checked bs x c in
     let l : length out < many_of x.n (length x.leaders) = omega (arith, listed_long bs x c) in (
-      sym (short_answer bs out (check_of bs) refl x.n (length x.leaders) q l),
-      sym (short_list bs out (check_of bs) refl x.n (length x.leaders) q l),
+      sym (short_answer bs out (check_of bs) refl _ q l),
+      sym (short_list bs out (check_of bs) refl _ q l),
     )
 
 -- bytes that are no card: their own refusal, and all stay
 pub numbers_refused : (bs out : List ℕ) (x : Refusal) → CardRefuses bs x
-    → (numbers_of bs (length out) ≡ checked.Refused x) × (list_of bs out ≡ out)
+    → (numbers_of bs (length out) ≡ Err x) × (list_of bs out ≡ out)
 numbers_refused bs out x r =
     let q = refuses_checked bs x r in
-    (sym (refused_answer bs out (check_of bs) refl x q) ∙ q, sym (refused_list bs out (check_of bs) refl x q))
+    (sym (refused_answer bs out (check_of bs) refl x q), sym (refused_list bs out (check_of bs) refl x q))

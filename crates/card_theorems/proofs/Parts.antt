@@ -1,32 +1,27 @@
 -- The lines and the leader entries: those that are as they must be are passed one by one, and what the judging says of bytes is what stands there.
 use Prim.Native.Nat.{ℕ, zero, suc, ◌+◌, ◌≤◌, ◌<◌}
-use mathlib.Core.Path.{◌≡◌, refl, sym, ap, ◌∙◌, subst}
+use mathlib.Core.Path.{◌≡◌, refl, ap, ◌∙◌, subst}
 use mathlib.Core.List.{List, [], ◌∷◌, ◌++◌, append_assoc}
-use mathlib.Core.Bool.{Bool, true, false}
 use mathlib.Core.Logic.{◌⊎◌, inl, inr, ⊎_elim}
 use native.Mathlib.Omega.{arith}
-use lib.Dec.{eqb}
 use lib.ListN.{length, take, drop, length-append, length-drop, take-append-drop}
-use lib.Seq.{drop_at, length-take-le}
-use borrow.Author.Tests.{eq-eqb, ne_eqb, eqb-true, eqb-false}
-use Rattle.words.specs.Tests.{pick}
+use lib.Seq.{drop_at}
+use borrow.Author.Tests.{ne_eqb}
+use Rattle.std.specs.Prelude.{Result, Ok, Err}
 use Rattle.words.specs.Words.{four_at}
 use Rattle.words.specs.Answer.{refusal_at}
-use Rattle.words.proofs.Laws.{cases}
 use Rattle.entry.specs.Entry.{concat}
 use Rattle.card_theorems.specs.Card.{Fill, Span, Lines, Leaders, Wrong, unknown, cut, order, Missing, IsLine, IsLeader, longs}
-use Rattle.cards.specs.Check.{fault_of, judged, refused_with, line_holds, leader_holds, lines_of, leaders_of}
-use Rattle.cards.specs.declared.Checked.{Checked}
-use Rattle.cards.specs.declared.Checked.TheVariants.{Card, Refused}
+use Rattle.cards.specs.Check.{carded, fault_of, judged, line_holds, leader_holds, lines_of, leaders_of}
 use Rattle.card_theorems.proofs.Entries.{four_front, entry_passes, passes_is, fault_wrong, wrong_fault, missing_fault, judges_line, judges_leader}
 
 -- ---- lines
 
-lines_step : (w k at m : ℕ) (r x : List ℕ) → fault_of 2 (line_holds (suc k) w (r ++ x)) (r ++ x) ≡ 0 → drop 13 (r ++ x) ≡ x
+lines_step : (w k at m : ℕ) (r x : List ℕ) → fault_of 2 (line_holds (suc k) w (r ++ x)) (r ++ x) ≡ Ok tt → drop 13 (r ++ x) ≡ x
     → lines_of (suc m) k w at (r ++ x) ≡ lines_of m (suc k) w (at + 13) x
 unfolding lines_of
 lines_step w k at m r x p q =
-    ap (λ (i : ℕ). judged i at (lines_of m (suc k) w (at + 13) (drop 13 (r ++ x)))) p ∙ ap (lines_of m (suc k) w (at + 13)) q
+    ap (λ (i : Result (Unit {0}) ℕ). judged i at (lines_of m (suc k) w (at + 13) (drop 13 (r ++ x)))) p ∙ ap (lines_of m (suc k) w (at + 13)) q
 
 -- entries that are as they must be are passed
 pub lines_pass : (w k at m j : ℕ) (rs : List (List ℕ)) (fs : List Fill) (left : List ℕ) → m ≡ length fs + j → Lines w (suc k) rs fs
@@ -50,15 +45,10 @@ lines_pass w k at (suc m) j (r ∷ rs) (f ∷ fs) left e ls =
     (let q : at + 13 + length (concat rs) ≡ at + length (r ++ concat rs) = omega (arith, length-append r (concat rs)) in q)
 
 -- behind them, what is first wrong is refused
-pub lines_refuse : (w k at j m : ℕ) (left : List ℕ) → Missing (IsLine w (suc k)) left m → lines_of (suc j) k w at left ≡ refused_with m at
+pub lines_refuse : (w k at j m : ℕ) (left : List ℕ) → Missing (IsLine w (suc k)) left m → lines_of (suc j) k w at left ≡ Err (refusal_at m at)
 unfolding lines_of
 lines_refuse w k at j m left h =
-    let f = missing_fault (judges_line w (suc k)) left m h in
-    ap (λ (i : ℕ). judged i at (lines_of j (suc k) w (at + 13) (drop 13 left))) f.0 ∙ wrong m f.1
-  where
-    wrong : (i : ℕ) → (i ≡ 0 → ⊥) → judged i at (lines_of j (suc k) w (at + 13) (drop 13 left)) ≡ refused_with i at
-    wrong zero n = absurd (n refl)
-    wrong (suc i) n = refl
+    ap (λ (i : Result (Unit {0}) ℕ). judged i at (lines_of j (suc k) w (at + 13) (drop 13 left))) (missing_fault (judges_line w (suc k)) left m h)
 
 -- what the judging of m lines behind k says of bytes
 pub record Said (m k w at : ℕ) (bs : List ℕ) : Type 0 where
@@ -73,8 +63,8 @@ pub lines_said : (m k w at : ℕ) (bs : List ℕ) → Said m k w at bs
 lines_said zero k w at bs = record { entries = []; fills = []; left = bs; are = refl; lines = tt; ends = inl refl }
 lines_said (suc m) k w at bs = go (fault_of 2 (line_holds (suc k) w bs) bs) refl (lines_said m (suc k) w (at + 13) (drop 13 bs))
   where
-    go : (f : ℕ) → fault_of 2 (line_holds (suc k) w bs) bs ≡ f → Said m (suc k) w (at + 13) (drop 13 bs) → Said (suc m) k w at bs
-    go zero q on =
+    go : (f : Result (Unit {0}) ℕ) → fault_of 2 (line_holds (suc k) w bs) bs ≡ f → Said m (suc k) w (at + 13) (drop 13 bs) → Said (suc m) k w at bs
+    go (Ok u) q on =
         let p = passes_is (judges_line w (suc k)) bs q in
         record {
           entries = take 13 bs ∷ on.entries;
@@ -93,7 +83,7 @@ lines_said (suc m) k w at bs = go (fault_of 2 (line_holds (suc k) w bs) bs) refl
               ))
               on.ends;
         }
-    go (suc f) q on =
+    go (Err f) q on =
         record {
           entries = [];
           fills = [];
@@ -103,16 +93,16 @@ lines_said (suc m) k w at bs = go (fault_of 2 (line_holds (suc k) w bs) bs) refl
           ends = inr (
             omega arith,
             (
-              suc f,
-              subst (λ (x : ℕ). Missing (IsLine w (suc x)) bs (suc f)) (let e : k ≡ k + 0 = omega arith in e)
-                  (fault_wrong (judges_line w (suc k)) bs (suc f) q (λ z. omega arith)),
+              f,
+              subst (λ (x : ℕ). Missing (IsLine w (suc x)) bs f) (let e : k ≡ k + 0 = omega arith in e)
+                  (fault_wrong (judges_line w (suc k)) bs f q),
             ),
           );
         }
 
 -- ---- leader entries
 
-leaders_step : (n sum k at m : ℕ) (r x : List ℕ) → length r ≡ 10 → fault_of 3 (leader_holds (suc k) sum (r ++ x)) (r ++ x) ≡ 0
+leaders_step : (n sum k at m : ℕ) (r x : List ℕ) → length r ≡ 10 → fault_of 3 (leader_holds (suc k) sum (r ++ x)) (r ++ x) ≡ Ok tt
     → leaders_of (suc m) n k sum at (r ++ x) ≡ leaders_of m n (suc k) (sum + four_at r 6) (at + 10) x
 unfolding leaders_of
 leaders_step n sum k at m r x s p =
@@ -155,7 +145,7 @@ leaders_pass n sum k at (suc m) (r ∷ rs) (s ∷ ss) left e ls =
     )
 
 -- at the card's end that is all
-pub leaders_end : (n sum k at m : ℕ) → leaders_of m n k sum at [] ≡ Card n k
+pub leaders_end : (n sum k at m : ℕ) → leaders_of m n k sum at [] ≡ carded n k
 unfolding leaders_of
 leaders_end n sum k at zero = refl
 leaders_end n sum k at (suc m) = refl
@@ -167,16 +157,11 @@ wrong_some bs m (cut b n k s q) = n
 wrong_some bs m (order b k s n q) = omega arith
 
 pub leaders_refuse : (n sum k at j m : ℕ) (left : List ℕ) → length left ≤ j → Wrong (IsLeader sum (suc k)) left m → leaders_of j n k sum at left
-    ≡ refused_with m at
+    ≡ Err (refusal_at m at)
 unfolding leaders_of
 leaders_refuse n sum k at zero m left e h = absurd (omega (arith, wrong_some left m h))
 leaders_refuse n sum k at (suc j) m left e h =
-    let f = wrong_fault (judges_leader sum (suc k)) left m h in
-    rw (ne_eqb (length left) 0 (λ z. omega (arith, wrong_some left m h)), f.0) (wrong m f.1)
-  where
-    wrong : (i : ℕ) → (i ≡ 0 → ⊥) → judged i at (leaders_of j n (suc k) (sum + four_at left 6) (at + 10) (drop 10 left)) ≡ refused_with i at
-    wrong zero z = absurd (z refl)
-    wrong (suc i) z = refl
+    rw (ne_eqb (length left) 0 (λ z. omega (arith, wrong_some left m h)), wrong_fault (judges_leader sum (suc k)) left m h)
 
 -- what the judging of leader entries behind k says of bytes
 pub record Told (k sum : ℕ) (bs : List ℕ) : Type 0 where
@@ -208,8 +193,8 @@ leaders_told (suc m) k sum bs e =
               h;
         }
 
-    go : (f : ℕ) → fault_of 3 (leader_holds (suc k) sum bs) bs ≡ f → ((y : ℕ) → Told (suc k) (sum + y) (drop 10 bs)) → Told k sum bs
-    go zero q more =
+    go : (f : Result (Unit {0}) ℕ) → fault_of 3 (leader_holds (suc k) sum bs) bs ≡ f → ((y : ℕ) → Told (suc k) (sum + y) (drop 10 bs)) → Told k sum bs
+    go (Ok u) q more =
         let p = passes_is (judges_leader sum (suc k)) bs q in
         let s = p.1.0 in
         let on = more s.long in
@@ -229,5 +214,5 @@ leaders_told (suc m) k sum bs e =
               ))
               on.ends;
         }
-    go (suc f) q more =
-        none (⊎_elim (λ a. inl a.0) (λ a. inr (suc f, a)) (fault_wrong (judges_leader sum (suc k)) bs (suc f) q (λ z. omega arith)))
+    go (Err f) q more =
+        none (⊎_elim (λ a. inl a.0) (λ a. inr (f, a)) (fault_wrong (judges_leader sum (suc k)) bs f q))

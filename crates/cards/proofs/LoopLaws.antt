@@ -3,24 +3,25 @@ use Prim.Native.Nat.{ℕ, zero, suc, ◌+◌, ◌-◌, ◌*◌, ◌≤◌, ◌<�
 use mathlib.Core.Path.{◌≡◌, refl, sym, ap, ap₂, ◌∙◌}
 use mathlib.Core.List.{List, [], ◌∷◌}
 use mathlib.Core.Bool.{Bool, true}
+use native.Mathlib.Nat.{mul-suc}
 use native.Mathlib.Numerals.{add-one}
 use native.Mathlib.Omega.{arith}
 use lib.Dec.{eqb}
 use lib.ListN.{length, take, drop, set, length-drop}
 use lib.Seq.{take_all, drop-drop, sets-eq}
 use borrow.Author.Tests.{eq-eqb, ne_eqb}
+use Rattle.std.specs.Prelude.{Result, Ok, Err}
 use Rattle.words.specs.Tests.{both_of}
 use Rattle.words.specs.Words.{four_at}
+use Rattle.words.specs.Answer.{refusal_at}
 use Rattle.words.specs.declared.Refusal.{Refusal}
 use Rattle.words.proofs.Laws.{both_l, both_r, within_true}
 use Rattle.writing.specs.Writing.{written}
 use Rattle.writing.proofs.WrittenLaws.{written_none, written_then}
 use Rattle.plan.specs.Plan.{plan_good, image_good, image_ranges, image_agrees, slots_zero?}
 use Rattle.plan.specs.declared.Plan.{Plan}
-use Rattle.cards.specs.Check.{body_of, fault_of, refused_with, judged, plan_from, first_holds, line_holds, leader_holds}
-use Rattle.cards.specs.Check.{lines_of, leaders_of, behind_lines, check_behind, check_of, pairs_from, Few}
-use Rattle.cards.specs.declared.Checked.{Checked}
-use Rattle.cards.specs.declared.Checked.TheVariants.{Card, Refused}
+use Rattle.cards.specs.Check.{Checked, carded, body_of, fault_of, judged, plan_from, first_holds, line_holds, leader_holds}
+use Rattle.cards.specs.Check.{lines_of, leaders_of, pairs_from, Few}
 use Rattle.cards.proofs.EntryLaws.{passes}
 
 -- what the code hands on as `&card[at..]`
@@ -30,18 +31,21 @@ rest b at = take (length b - at) (drop at b)
 pub rest_is : (b : List ℕ) (at : ℕ) → rest b at ≡ drop at b
 rest_is b at = take_all (length b - at) (drop at b) (omega (arith, length-drop at b))
 
-judged_wrong : (m at : ℕ) (on : Checked) → (m ≡ 0 → ⊥) → judged m at on ≡ refused_with m at
-judged_wrong zero at on n = absurd (n refl)
-judged_wrong (suc m) at on n = refl
+-- an entry's own refusal is that of whatever is judged behind it, and without one nothing is wrong with the entry
+pub judged_err : {A : Type 0} (f : Result (Unit {0}) ℕ) (at : ℕ) (on : Result A Refusal) (r : Refusal) → judged {A = Unit {0}} f at (Ok tt) ≡ Err r
+    → judged f at on ≡ Err r
+judged_err (Ok u) at on r e = absurd cc
+judged_err (Err m) at on r e = let p : refusal_at m at ≡ r = cc in ap Err p
 
-judged_none : (m at : ℕ) (on : Checked) → m ≡ 0 → judged m at on ≡ on
-judged_none m at on e = ap (λ (i : ℕ). judged i at on) e
+pub judged_ok : (f : Result (Unit {0}) ℕ) (at : ℕ) → judged {A = Unit {0}} f at (Ok tt) ≡ Ok tt → f ≡ Ok tt
+judged_ok (Ok u) at e = refl
+judged_ok (Err m) at e = absurd cc
 
 less_one : (m n : ℕ) → n < m → m - n ≡ suc (m - (n + 1))
 less_one m n h = omega arith
 
 -- an entry that passes lies within the card
-pub pass_room : (want at : ℕ) (holds : Bool) (b : List ℕ) → at ≤ length b → fault_of want holds (rest b at) ≡ 0 → at + (1 + body_of want) ≤ length b
+pub pass_room : (want at : ℕ) (holds : Bool) (b : List ℕ) → at ≤ length b → fault_of want holds (rest b at) ≡ Ok tt → at + (1 + body_of want) ≤ length b
 pass_room want at holds b h e =
     omega (arith, (passes want holds (drop at b) (rw (rest_is b at) at e)).whole, length-drop at b)
 
@@ -53,31 +57,31 @@ module _ (n k w at : ℕ) (b : List ℕ) where
   unfolding lines_of
   lines_at h = ap (λ (f : ℕ). lines_of f k w at (drop at b)) (less_one n k h) ∙ rw (rest_is b at, ← drop-drop 13 at b, add-one k)
 
-  pub lines_wrong : (m : ℕ) → k < n → m ≡ fault_of 2 (line_holds (k + 1) w (rest b at)) (rest b at) → (m ≡ 0 → ⊥)
-      → refused_with m at ≡ lines_of (n - k) k w at (drop at b)
-  lines_wrong m h e z = sym (lines_at h ∙ ap (λ (i : ℕ). judged i at (lines_of (n - (k + 1)) (k + 1) w (at + 13) (drop (at + 13) b))) (sym e)
-      ∙ judged_wrong m at _ z)
+  pub lines_wrong : (r : Refusal) → k < n → judged {A = Unit {0}} (fault_of 2 (line_holds (k + 1) w (rest b at)) (rest b at)) at (Ok tt) ≡ Err r
+      → Err r ≡ lines_of (n - k) k w at (drop at b)
+  lines_wrong r h e = sym (lines_at h ∙ judged_err _ at _ r e)
 
-  pub lines_next : k < n → fault_of 2 (line_holds (k + 1) w (rest b at)) (rest b at) ≡ 0
+  pub lines_next : k < n → fault_of 2 (line_holds (k + 1) w (rest b at)) (rest b at) ≡ Ok tt
       → lines_of (n - k) k w at (drop at b) ≡ lines_of (n - (k + 1)) (k + 1) w (at + 13) (drop (at + 13) b)
-  lines_next h e = lines_at h ∙ judged_none _ at _ e
+  lines_next h e = lines_at h ∙ ap (λ (f : Result (Unit {0}) ℕ). judged f at (lines_of (n - (k + 1)) (k + 1) w (at + 13) (drop (at + 13) b))) e
 
-  pub lines_end : n ≤ k → Card k 0 ≡ lines_of (n - k) k w at (drop at b)
+  pub lines_end : n ≤ k → Ok tt ≡ lines_of (n - k) k w at (drop at b)
   unfolding lines_of
   lines_end h = let z : n - k ≡ 0 = omega arith in sym (ap (λ (f : ℕ). lines_of f k w at (drop at b)) z)
 
 -- lines that are all right lie within the card
-pub lines_room : (m k w at a j : ℕ) (r : List ℕ) → lines_of m k w at r ≡ Card a j → 13 * m ≤ length r
+pub lines_room : (m k w at : ℕ) (r : List ℕ) → lines_of m k w at r ≡ Ok tt → 13 * m ≤ length r
 unfolding lines_of body_of
-lines_room zero k w at a j r e = omega arith
-lines_room (suc m) k w at a j r e = go (fault_of 2 (line_holds (suc k) w r) r) refl (lines_room m (suc k) w (at + 13) a j (drop 13 r)) e
+lines_room zero k w at r e = omega arith
+lines_room (suc m) k w at r e = go (fault_of 2 (line_holds (suc k) w r) r) refl (lines_room m (suc k) w (at + 13) (drop 13 r)) e
   where
-    go : (f : ℕ) → fault_of 2 (line_holds (suc k) w r) r ≡ f → (lines_of m (suc k) w (at + 13) (drop 13 r) ≡ Card a j → 13 * m ≤ length (drop 13 r))
-        → judged f at (lines_of m (suc k) w (at + 13) (drop 13 r)) ≡ Card a j → 13 * suc m ≤ length r
-    go zero q ih h =
+    go : (f : Result (Unit {0}) ℕ) → fault_of 2 (line_holds (suc k) w r) r ≡ f
+        → (lines_of m (suc k) w (at + 13) (drop 13 r) ≡ Ok tt → 13 * m ≤ length (drop 13 r))
+        → judged f at (lines_of m (suc k) w (at + 13) (drop 13 r)) ≡ Ok tt → 13 * suc m ≤ length r
+    go (Ok u) q ih h =
         let s : 13 ≤ length r = (passes 2 (line_holds (suc k) w r) r q).whole in
         omega (arith, ih h, length-drop 13 r)
-    go (suc f) q ih h = let z : ◌≡◌ {A = ℕ} 0 1 = cc in absurd (omega arith)
+    go (Err f) q ih h = absurd cc
 
 -- ---- leader entries
 
@@ -88,21 +92,24 @@ module _ (n k sum at : ℕ) (b : List ℕ) where
   unfolding leaders_of
   leaders_at f h = rw (ne_eqb (length (drop at b)) 0 (λ z. omega (arith, length-drop at b)), rest_is b at, ← drop-drop 10 at b, add-one k)
 
-  pub leaders_wrong : (f m : ℕ) → at < length b → length b ≤ f + at → m ≡ fault_of 3 (leader_holds (k + 1) sum (rest b at)) (rest b at) → (m ≡ 0 → ⊥)
-      → refused_with m at ≡ leaders_of f n k sum at (drop at b)
-  leaders_wrong zero m h l e z = absurd (omega arith)
-  leaders_wrong (suc f) m h l e z = sym (leaders_at f h
-      ∙ ap (λ (i : ℕ). judged i at (leaders_of f n (k + 1) (sum + four_at (rest b at) 6) (at + 10) (drop (at + 10) b))) (sym e)
-      ∙ judged_wrong m at _ z)
+  pub leaders_wrong : (f : ℕ) (r : Refusal) → at < length b → length b ≤ f + at
+      → judged {A = Unit {0}} (fault_of 3 (leader_holds (k + 1) sum (rest b at)) (rest b at)) at (Ok tt) ≡ Err r → Err r ≡ leaders_of f n k sum at (drop at b)
+  leaders_wrong zero r h l e = absurd (omega arith)
+  leaders_wrong (suc f) r h l e = sym (leaders_at f h ∙ judged_err _ at _ r e)
 
   -- as many turns as there are bytes are enough
-  pub leaders_next : (f : ℕ) → at < length b → length b ≤ f + at → fault_of 3 (leader_holds (k + 1) sum (rest b at)) (rest b at) ≡ 0
+  pub leaders_next : (f : ℕ) → at < length b → length b ≤ f + at → fault_of 3 (leader_holds (k + 1) sum (rest b at)) (rest b at) ≡ Ok tt
       → (g : ℕ) × (length b ≤ g + (at + 10))
       × (leaders_of f n k sum at (drop at b) ≡ leaders_of g n (k + 1) (sum + four_at (rest b at) 6) (at + 10) (drop (at + 10) b))
   leaders_next zero h l e = absurd (omega arith)
-  leaders_next (suc f) h l e = (f, omega arith, leaders_at f h ∙ judged_none _ at _ e)
+  leaders_next (suc f) h l e = (
+    f,
+    omega arith,
+    leaders_at f h
+        ∙ ap (λ (x : Result (Unit {0}) ℕ). judged x at (leaders_of f n (k + 1) (sum + four_at (rest b at) 6) (at + 10) (drop (at + 10) b))) e,
+  )
 
-pub leaders_end : (f n k sum at : ℕ) (b : List ℕ) → length b ≤ at → Card n k ≡ leaders_of f n k sum at (drop at b)
+pub leaders_end : (f n k sum at : ℕ) (b : List ℕ) → length b ≤ at → carded n k ≡ leaders_of f n k sum at (drop at b)
 unfolding leaders_of
 leaders_end zero n k sum at b h = refl
 leaders_end (suc f) n k sum at b h = sym (rw (eq-eqb (length (drop at b)) 0 (omega (arith, length-drop at b))))
@@ -122,59 +129,36 @@ unfolding pairs_from
 pairs_long zero at step bs = refl
 pairs_long (suc m) at step bs = omega (arith, pairs_long m (at + step) step bs)
 
-module _ (count i at step to : ℕ) (bs out : List ℕ) where
-  pub pairs_next : (a b : ℕ) → i < count → to + 2 * count ≤ length out → a ≡ four_at bs at → b ≡ four_at bs (at + 4)
-      → written out (to + 2 * i) (pairs_from (count - i) at step bs)
-      ≡ written (set (set out (to + 2 * i) a) (to + 2 * i + 1) b) (to + 2 * (i + 1)) (pairs_from (count - (i + 1)) (at + step) step bs)
+module _ (count i from step to : ℕ) (bs out : List ℕ) where
+  pub pairs_next : (a b : ℕ) → i < count → to + 2 * count ≤ length out → a ≡ four_at bs (from + step * i) → b ≡ four_at bs (from + step * i + 4)
+      → written out (to + 2 * i) (pairs_from (count - i) (from + step * i) step bs)
+      ≡ written (set (set out (to + 2 * i) a) (to + 2 * i + 1) b) (to + 2 * (i + 1)) (pairs_from (count - (i + 1)) (from + step * (i + 1)) step bs)
   unfolding pairs_from
   pairs_next a b h r p q =
+      let at : ℕ = from + step * i in
       let e : to + 2 * i + 2 ≡ to + 2 * (i + 1) = omega arith in
+      let next : at + step ≡ from + step * (i + 1) = omega (arith, mul-suc step i, add-one i) in
       let on : List ℕ = pairs_from (count - (i + 1)) (at + step) step bs in
       ap (λ (f : ℕ). written out (to + 2 * i) (pairs_from f at step bs)) (less_one count i h)
       ∙ ap₂ (λ (x y : ℕ). written out (to + 2 * i) (x ∷ y ∷ on)) (sym p) (sym q)
       ∙ pair_put out (to + 2 * i) a b on (omega (arith, pairs_long (count - (i + 1)) (at + step) step bs))
-      ∙ ap (λ (j : ℕ). written (set (set out (to + 2 * i) a) (to + 2 * i + 1) b) j on) e
+      ∙ ap₂ (λ (j x : ℕ). written (set (set out (to + 2 * i) a) (to + 2 * i + 1) b) j (pairs_from (count - (i + 1)) x step bs)) e next
 
-  pub pairs_end : count ≤ i → written out (to + 2 * i) (pairs_from (count - i) at step bs) ≡ out
+  pub pairs_end : count ≤ i → written out (to + 2 * i) (pairs_from (count - i) (from + step * i) step bs) ≡ out
   unfolding pairs_from
   pairs_end h = let z : count - i ≡ 0 = omega arith in
-      ap (λ (f : ℕ). written out (to + 2 * i) (pairs_from f at step bs)) z ∙ written_none out (to + 2 * i)
+      ap (λ (f : ℕ). written out (to + 2 * i) (pairs_from f (from + step * i) step bs)) z ∙ written_none out (to + 2 * i)
 
 -- ---- how many there are
 
-pub refused_few : (most : ℕ) (r : Checked) (x : Refusal) → r ≡ Refused x → Few most r
-refused_few most r x e n k h = let z : ◌≡◌ {A = ℕ} 0 1 = cc in absurd (omega arith)
+pub refused_few : (most : ℕ) (r : Checked) (x : Refusal) → r ≡ Err x → Few most r
+refused_few most r x e c h = absurd cc
 
 pub few_more : (n most : ℕ) (r : Checked) → n ≤ most → Few n r → Few most r
-few_more n most r h f a j e = (omega (arith, (f a j e).0), (f a j e).1)
+few_more n most r h f c e = (omega (arith, (f c e).0), (f c e).1)
 
-pub card_few : (n k : ℕ) → k ≤ 255 → Few n (Card n k)
-card_few n k h n' k' e = let p : n ≡ n' = cc in let q : k ≡ k' = cc in (omega arith, omega arith)
-
--- ---- the card
-
-module _ (bs : List ℕ) where
-  pub check_first : (m : ℕ) → m ≡ fault_of 1 (first_holds bs) bs → (m ≡ 0 → ⊥) → refused_with m 0 ≡ check_of bs
-  unfolding check_of
-  check_first m e z = sym (ap (λ (i : ℕ). judged i 0 (check_behind bs)) (sym e) ∙ judged_wrong m 0 (check_behind bs) z)
-
-  module _ (fine : fault_of 1 (first_holds bs) bs ≡ 0) (x : Checked) (e : x ≡ lines_of (four_at bs 1) 0 (four_at bs 9) 17 (drop 17 bs)) where
-    check_behind_lem : check_of bs ≡ behind_lines x (leaders_of (length bs) (four_at bs 1) 0 0 (17 + 13 * four_at bs 1) (drop (17 + 13 * four_at bs 1) bs))
-    unfolding check_of
-    check_behind_lem = judged_none _ 0 (check_behind bs) fine
-        ∙ ap (λ (y : Checked). behind_lines y (leaders_of (length bs) (four_at bs 1) 0 0 (17 + 13 * four_at bs 1) (drop (17 + 13 * four_at bs 1) bs))) (sym e)
-
-    pub check_lines : (r : Refusal) → x ≡ Refused r → x ≡ check_of bs
-    check_lines r q = q ∙ sym (check_behind_lem
-        ∙ ap (λ (y : Checked). behind_lines y (leaders_of (length bs) (four_at bs 1) 0 0 (17 + 13 * four_at bs 1) (drop (17 + 13 * four_at bs 1) bs))) q)
-
-    module _ (a j : ℕ) (q : x ≡ Card a j) where
-      pub lines_within : 17 ≤ length bs → 17 + 13 * four_at bs 1 ≤ length bs
-      lines_within h = omega (arith, lines_room (four_at bs 1) 0 (four_at bs 9) 17 a j (drop 17 bs) (sym e ∙ q), length-drop 17 bs)
-
-      pub check_leaders : leaders_of (length bs) (four_at bs 1) 0 0 (17 + 13 * four_at bs 1) (drop (17 + 13 * four_at bs 1) bs) ≡ check_of bs
-      check_leaders = sym (check_behind_lem
-          ∙ ap (λ (y : Checked). behind_lines y (leaders_of (length bs) (four_at bs 1) 0 0 (17 + 13 * four_at bs 1) (drop (17 + 13 * four_at bs 1) bs))) q)
+pub card_few : (n k : ℕ) → k ≤ 255 → Few n (carded n k)
+card_few n k h c e = let p : n ≡ c.lines = cc in let q : k ≡ c.entries = cc in (omega arith, omega arith)
 
 -- the numbers of kind 1 are an image's
 pub first_few : (bs : List ℕ) → first_holds bs ≡ true → four_at bs 1 ≤ 999999

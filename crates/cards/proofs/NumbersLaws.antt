@@ -5,13 +5,13 @@ use mathlib.Core.List.{List, ◌++◌, append_assoc}
 use native.Mathlib.Omega.{arith}
 use lib.ListN.{length, length-append}
 use borrow.Author.Tests.{lt-ltb, le-ltb}
+use Rattle.std.specs.Prelude.{Ok, Err}
 use Rattle.words.specs.Answer.{bare_refusal}
 use Rattle.words.specs.declared.Refusal.{Refusal}
 use Rattle.writing.specs.Writing.{written}
 use Rattle.writing.proofs.WrittenLaws.{written_on}
-use Rattle.cards.specs.Check.{check_of, pairs_from, flat_of, many_of, numbers_by, numbers_of, list_by, list_of}
-use Rattle.cards.specs.declared.Checked.{Checked}
-use Rattle.cards.specs.declared.Checked.TheVariants.{Card, Refused}
+use Rattle.cards.specs.Check.{Checked, check_of, pairs_from, flat_of, many_of, numbers_by, numbers_of, list_by, list_of}
+use Rattle.cards.specs.declared.Card.{Card}
 use Rattle.cards.proofs.LoopLaws.{pairs_long}
 
 pub three_runs : (n k : ℕ) (bs out one two three : List ℕ) → many_of n k ≤ length out → one ≡ written out 0 (pairs_from 2 1 8 bs)
@@ -31,30 +31,30 @@ three_runs n k bs out one two three h p q e =
 
 module _ (bs out : List ℕ) (x : Checked) (e : x ≡ check_of bs) where
   -- the check's refusal
-  module _ (r : Refusal) (q : x ≡ Refused r) where
-    pub refused_answer : x ≡ numbers_of bs (length out)
+  module _ (r : Refusal) (q : x ≡ Err r) where
+    pub refused_answer : Err r ≡ numbers_of bs (length out)
     unfolding numbers_of
-    refused_answer = q ∙ sym (ap (λ (y : Checked). numbers_by y (length out)) (sym e ∙ q))
+    refused_answer = sym (ap (λ (y : Checked). numbers_by y (length out)) (sym e ∙ q))
 
     pub refused_list : out ≡ list_of bs out
     unfolding list_of
     refused_list = sym (ap (λ (y : Checked). list_by y bs out) (sym e ∙ q))
 
-  module _ (n k : ℕ) (q : x ≡ Card n k) where
+  module _ (c : Card) (q : x ≡ Ok c) where
     -- 37
-    pub short_answer : length out < many_of n k → Refused (bare_refusal 37) ≡ numbers_of bs (length out)
+    pub short_answer : length out < many_of c.lines c.entries → Err (bare_refusal 37) ≡ numbers_of bs (length out)
     unfolding numbers_of
-    short_answer h = sym (ap (λ (y : Checked). numbers_by y (length out)) (sym e ∙ q) ∙ simp (lt-ltb (length out) (many_of n k) h))
+    short_answer h = sym (ap (λ (y : Checked). numbers_by y (length out)) (sym e ∙ q) ∙ simp (lt-ltb (length out) (many_of c.lines c.entries) h))
 
-    pub short_list : length out < many_of n k → out ≡ list_of bs out
+    pub short_list : length out < many_of c.lines c.entries → out ≡ list_of bs out
     unfolding list_of
-    short_list h = sym (ap (λ (y : Checked). list_by y bs out) (sym e ∙ q) ∙ simp (lt-ltb (length out) (many_of n k) h))
+    short_list h = sym (ap (λ (y : Checked). list_by y bs out) (sym e ∙ q) ∙ simp (lt-ltb (length out) (many_of c.lines c.entries) h))
 
     -- the numbers
-    pub card_answer : many_of n k ≤ length out → Card n k ≡ numbers_of bs (length out)
+    pub card_answer : many_of c.lines c.entries ≤ length out → Ok c ≡ numbers_of bs (length out)
     unfolding numbers_of
-    card_answer h = sym (ap (λ (y : Checked). numbers_by y (length out)) (sym e ∙ q) ∙ simp (le-ltb (length out) (many_of n k) h))
+    card_answer h = sym (ap (λ (y : Checked). numbers_by y (length out)) (sym e ∙ q) ∙ simp (le-ltb (length out) (many_of c.lines c.entries) h))
 
-    pub card_list : many_of n k ≤ length out → written out 0 (flat_of n k bs) ≡ list_of bs out
+    pub card_list : many_of c.lines c.entries ≤ length out → written out 0 (flat_of c.lines c.entries bs) ≡ list_of bs out
     unfolding list_of
-    card_list h = sym (ap (λ (y : Checked). list_by y bs out) (sym e ∙ q) ∙ simp (le-ltb (length out) (many_of n k) h))
+    card_list h = sym (ap (λ (y : Checked). list_by y bs out) (sym e ∙ q) ∙ simp (le-ltb (length out) (many_of c.lines c.entries) h))

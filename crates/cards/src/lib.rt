@@ -2,62 +2,75 @@
 // line's, each leader record's. Reads one, and says of any bytes what is first wrong with them as a card.
 #![tactic(auto)]
 
-ghost use Rattle.std.specs.Prelude.{◌≡◌, true, ◌+◌, ◌*◌, ◌≤◌, ◌<◌, ◌^◌, eqb, leb, length, drop};
-ghost use Rattle.words.specs.Tests.{both_of};
+ghost use Rattle.std.specs.Prelude.{◌≡◌, true, ◌+◌, ◌*◌, ◌≤◌, ◌<◌, ◌^◌, eqb, leb, length, drop, Some, None, Ok, Err};
+ghost use Rattle.words.specs.Tests.{pick, both_of};
+ghost use Rattle.words.specs.Answer.{refusal_at};
 ghost use Rattle.words.specs.Words.{four_at};
 ghost use Rattle.writing.specs.Writing.{written};
-ghost use Rattle.cards.specs.Check.{body_of, fault_of, refused_with, sort_by, first_holds, line_holds, leader_holds};
+ghost use Rattle.cards.specs.Check.{body_of, fault_of, judged, sort_by, first_holds, line_holds, leader_holds};
 ghost use Rattle.cards.specs.Check.{lines_of, leaders_of, check_of, Few, pairs_from, numbers_of, list_of};
 
+use plan::Plan;
 use words::Refusal;
 
-// A card, with so many lines and leader entries; or what is first wrong.
+// A card: how many lines and how many leader entries it has.
 #[derive(Clone, Copy)]
-pub enum Checked {
-    Card(u64, u64),
-    Refused(Refusal),
+pub struct Card {
+    pub lines: u64,
+    pub entries: u64,
 }
 
-// How long a body of that kind is; 0 where there is no such kind.
-fn body(kind: u64) -> usize
-    ensures { result ≡ body_of kind }
+// A card; or what is first wrong.
+pub type Checked = Result<Card, Refusal>;
+
+// The kinds of entries: the image's numbers, a line's, a leader record's.
+const FIRST: u64 = 1;
+
+const LINE: u64 = 2;
+
+const LEADER: u64 = 3;
+
+// How long a body of that kind is; none where there is no such kind.
+#[tactic(auto, unfolding(crate::specs::Check::body_of))]
+fn body(kind: u64) -> Option<usize>
+    ensures { result ≡ pick (eqb (body_of kind) 0) None (Some (body_of kind)) }
 {
     match kind {
-        1 => 16,
-        2 => 12,
-        3 => 9,
-        _ => 0,
+        FIRST => Some(16),
+        LINE => Some(12),
+        LEADER => Some(9),
+        _ => None,
     }
 }
 
 // What is wrong with the entry that begins these bytes, where one of that kind is due: the card ends
 // here or in it (21), there is no such kind (20), it is another, or what it must hold it does not (22);
-// 0 for nothing.
-fn fault(b: &[u8], want: u64, holds: bool) -> u64
-    ensures { result ≡ fault_of want holds b.now }
+// each at the entry's start.
+#[tactic(auto, unfolding(crate::specs::Check::fault_of))]
+fn fault(b: &[u8], want: u64, holds: bool, at: usize) -> Result<(), Refusal>
+    ensures { result ≡ judged (fault_of want holds b.now) at (Ok tt) }
 {
-    if b.len() == 0 {
-        return 21;
+    if b.is_empty() {
+        return refused(21, at);
     }
     let kind = entry::kind(b);
-    let long = body(kind);
-    if long == 0 {
-        return 20;
-    }
+    let Some(long) = body(kind) else {
+        return refused(20, at);
+    };
     if !entry::whole(b, long) {
-        return 21;
+        return refused(21, at);
     }
-    if words::both(words::is(kind, want), holds) {
-        return 0;
+    if kind == want && holds {
+        return Ok(());
     }
-    22
+    refused(22, at)
 }
 
 // A refusal at an entry's start.
-fn refused(number: u64, at: usize) -> Checked
-    ensures { result ≡ refused_with number at }
+fn refused(number: u64, at: usize) -> Result<(), Refusal>
+    ensures { result ≡ Err (refusal_at number at) }
 {
-    Checked::Refused(words::at_place(number, at as u64))
+    Err(words::at_place(number, at as u64))
 }
 
 // The sort of an image of w pixels in d bytes: complex where d is 8w (document 02, No. 2), else counts.
@@ -72,16 +85,21 @@ fn sort_by(w: u64, d: u64) -> u64
 }
 
 // Kind 1: n, L, w and d are such as an image's first record names, with s as 0.
+#[tactic(auto, unfolding(crate::specs::Check::first_holds))]
 fn first_holds(b: &[u8]) -> bool
     ensures { result ≡ first_holds b.now }
 {
-    let mut p = plan::zero();
-    p.n = words::four(b, 1);
-    p.l = words::four(b, 5);
-    p.w = words::four(b, 9);
-    p.d = words::four(b, 13);
-    p.sort = sort_by(p.w, p.d);
-    allowed::good(plan::IMAGE, p)
+    let w = words::four(b, 9);
+    let d = words::four(b, 13);
+    let named = Plan {
+        n: words::four(b, 1),
+        l: words::four(b, 5),
+        w,
+        d,
+        sort: sort_by(w, d),
+        ..plan::zero()
+    };
+    allowed::good(plan::IMAGE, named)
 }
 
 // A line's number is the one due, and left fill and data count add up, an ordinary sum, to w at most.
@@ -89,11 +107,12 @@ fn line_agrees(number: u64, left: u64, count: u64, k: u64, w: u64) -> bool
     requires { (left < 2 ^ 32) × (count < 2 ^ 32) }
     ensures { result ≡ both_of (eqb number k) (leb (left + count) w) }
 {
-    words::both(words::is(number, k), left + count <= w)
+    number == k && left + count <= w
 }
 
 // Kind 2: what the entry says of line k. An entry that is there is tested once for its bytes, and not
 // at each number (docs/SPEED.md).
+#[tactic(auto, unfolding(crate::specs::Check::line_holds))]
 fn line_holds(b: &[u8], k: u64, w: u64) -> bool
     ensures { result ≡ line_holds k w b.now }
 {
@@ -112,35 +131,25 @@ fn line_holds(b: &[u8], k: u64, w: u64) -> bool
 }
 
 // Kind 3: the leader record's ordinal, and a start that is the sum of the lengths before it.
+#[tactic(auto, unfolding(crate::specs::Check::leader_holds))]
 fn leader_holds(b: &[u8], k: u64, sum: u64) -> bool
     ensures value { result ≡ leader_holds k sum b.now }
     ensures k_bound { result ≡ true → k ≤ 255 }
 {
-    let ordinal = words::byte(b, 1);
-    let start = words::four(b, 2);
-    if ordinal != k {
-        return false;
-    }
-    start == sum
+    words::byte(b, 1) == k && words::four(b, 2) == sum
 }
 
 // The lines' entries, from the card's 18th byte on: every line, or what is first wrong.
-fn lines(card: &[u8], n: u64, w: u64) -> Checked
+fn lines(card: &[u8], n: u64, w: u64) -> Result<(), Refusal>
     requires { 17 ≤ length card.now }
     ensures { result ≡ lines_of n 0 w 17 (drop 17 card.now) }
 {
-    let mut k: u64 = 0;
-    let mut at: usize = 17;
-    while k < n {
+    for k in 0..n {
+        let at = 17 + 13 * k as usize;
         let rest = &card[at..];
-        let wrong = fault(rest, 2, line_holds(rest, k + 1, w));
-        if wrong != 0 {
-            return refused(wrong, at);
-        }
-        at += 13;
-        k += 1;
+        fault(rest, LINE, line_holds(rest, k + 1, w), at)?;
     }
-    Checked::Card(k, 0)
+    Ok(())
 }
 
 // The leader's entries from a place on, to the card's end.
@@ -149,64 +158,38 @@ fn leaders(card: &[u8], n: u64, from: usize) -> Checked
     ensures value { result ≡ leaders_of (length card.now) n 0 0 from (drop from card.now) }
     ensures few { Few n result }
 {
-    let mut k: u64 = 0;
+    let mut entries: u64 = 0;
     let mut sum: u64 = 0;
-    let mut at = from;
-    while at < card.len() {
+    for at in (from..card.len()).step_by(10) {
         let rest = &card[at..];
-        let wrong = fault(rest, 3, leader_holds(rest, k + 1, sum));
-        if wrong != 0 {
-            return refused(wrong, at);
-        }
+        fault(rest, LEADER, leader_holds(rest, entries + 1, sum), at)?;
         sum += words::four(rest, 6);
-        at += 10;
-        k += 1;
+        entries += 1;
     }
-    Checked::Card(n, k)
+    Ok(Card { lines: n, entries })
 }
 
 // Judges the bytes as a card, entry by entry from the front.
+#[tactic(auto, using(crate::proofs::LoopLaws::judged_err), unfolding(crate::specs::Check::check_of))]
 pub fn check(card: &[u8]) -> Checked
     ensures value { result ≡ check_of card.now }
     ensures few { Few 999999 result }
 {
-    let wrong = fault(card, 1, first_holds(card));
-    if wrong != 0 {
-        return refused(wrong, 0);
-    }
+    fault(card, FIRST, first_holds(card), 0)?;
     let n = words::four(card, 1);
-    let every = lines(card, n, words::four(card, 9));
-    let Checked::Card(_, _) = every else {
-        return every;
-    };
+    lines(card, n, words::four(card, 9))?;
     leaders(card, n, 17 + 13 * n as usize)
 }
 
-// Two numbers that stand one behind the other.
-#[derive(Clone, Copy)]
-struct Two {
-    one: u64,
-    two: u64,
-}
-
 // The two numbers from a place on; where they have come they are tested once for their bytes.
-fn two_at(b: &[u8], at: usize) -> Two
+fn two_at(b: &[u8], at: usize) -> (u64, u64)
     requires { at ≤ 9999999999 }
-    ensures { (result.one ≡ four_at b.now at) × (result.two ≡ four_at b.now (at + 4)) }
+    ensures { (result.0 ≡ four_at b.now at) × (result.1 ≡ four_at b.now (at + 4)) }
 {
-    let len = b.len();
-    if 8 <= len {
-        if at <= len - 8 {
-            return Two {
-                one: words::four_there(b, at),
-                two: words::four_there(b, at + 4),
-            };
-        }
+    if at + 8 <= b.len() {
+        return (words::four_there(b, at), words::four_there(b, at + 4));
     }
-    Two {
-        one: words::four(b, at),
-        two: words::four(b, at + 4),
-    }
+    (words::four(b, at), words::four(b, at + 4))
 }
 
 // Pairs of numbers, which stand a step apart from a place of the card on, to a place of the list on.
@@ -214,33 +197,34 @@ fn pairs(card: &[u8], from: usize, step: usize, count: usize, out: &mut [u64], t
     requires { (from ≤ 99999999) × (step ≤ 13) × (count ≤ 999999) × (to + 2 * count ≤ length out.old) }
     ensures { out.new ≡ written out.old to (pairs_from count from step card.now) }
 {
-    let mut i: usize = 0;
-    let mut at = from;
-    while i < count {
-        let pair = two_at(card, at);
-        out[to + 2 * i] = pair.one;
-        out[to + 2 * i + 1] = pair.two;
-        at += step;
-        i += 1;
+    for i in 0..count {
+        let (one, two) = two_at(card, from + step * i);
+        out[to + 2 * i] = one;
+        out[to + 2 * i + 1] = two;
     }
 }
 
 // The numbers of a card to the list's start: n, L, w, d, then left and data of each line, then start
 // and length of each leader entry. A list that is too short is 37; on a refusal every number stays.
+#[tactic(auto, unfolding(crate::specs::Check::numbers_of, crate::specs::Check::list_of))]
 pub fn numbers(card: &[u8], out: &mut [u64]) -> Checked
     ensures value { result ≡ numbers_of card.now (length out.old) }
     ensures out_after { out.new ≡ list_of card.now out.old }
 {
-    let read = check(card);
-    let Checked::Card(n, k) = read else {
-        return read;
-    };
-    if (out.len() as u64) < 4 + 2 * n + 2 * k {
-        return Checked::Refused(words::bare(37));
+    let read = check(card)?;
+    if (out.len() as u64) < 4 + 2 * read.lines + 2 * read.entries {
+        return Err(words::bare(37));
     }
-    let lines = n as usize;
+    let lines = read.lines as usize;
     pairs(card, 1, 8, 2, out, 0);
     pairs(card, 22, 13, lines, out, 4);
-    pairs(card, 19 + 13 * lines, 10, k as usize, out, 4 + 2 * lines);
-    read
+    pairs(
+        card,
+        19 + 13 * lines,
+        10,
+        read.entries as usize,
+        out,
+        4 + 2 * lines,
+    );
+    Ok(read)
 }

@@ -1,24 +1,20 @@
 -- The row's start, number by number: one more at a time, two a sample; and what a copy leaves of the row behind them.
 use Prim.Native.Nat.{ℕ, zero, suc, ◌+◌, ◌*◌, ◌≤◌, ◌<◌}
 use mathlib.Core.Path.{◌≡◌, refl, sym, ap, ap₂, ◌∙◌}
-use mathlib.Core.List.{List, [], ◌∷◌, ◌++◌}
-use mathlib.Core.Bool.{true, false}
+use mathlib.Core.List.{List, ◌∷◌, ◌++◌}
+use mathlib.Core.Bool.{false}
 use native.Mathlib.Omega.{arith}
 use native.Mathlib.Nat.{add-zero}
 use lib.Dec.{ltb}
-use lib.ListN.{length, get_or, set, drop}
-use lib.Seq.{set_at, drop-cons, append_snoc}
-use borrow.Author.Tests.{lt-ltb, le-ltb}
+use lib.ListN.{length, get_or, drop}
+use Rattle.std.proofs.lemmas.List.{ext_get_or}
 use Rattle.words.specs.Tests.{pick}
 use Rattle.words.specs.Words.{four_at}
-use Rattle.words.specs.Answer.{bare_refusal}
-use Rattle.words.specs.declared.Refusal.{Refusal}
-use Rattle.lines.specs.declared.View.{View}
-use Rattle.lines.specs.declared.View.TheVariants.{Shown, Wait, Refused}
-use Rattle.copies.specs.declared.Copied.TheVariants.{Done, Wait as Wait', Refused as Refused'}
+use Rattle.std.specs.Prelude.{Ok}
+use Rattle.lines.specs.declared.Shown.{Shown}
 use Rattle.samples.specs.Samples.{is_complex, pattern_at, place_in}
 use Rattle.samples.proofs.StayLaws.{four_stays}
-use Rattle.complex_rows.specs.Parts.{fours, parts, parts_copied_by, parts_row_by}
+use Rattle.complex_rows.specs.Parts.{fours, parts, parts_row_by}
 
 -- ---- numbers of four bytes, one more at a time
 
@@ -27,32 +23,20 @@ unfolding fours
 length_fours bs at zero = refl
 length_fours bs at (suc n) = ap suc (length_fours bs (at + 4) n)
 
-fours_more : (bs : List ℕ) (at n : ℕ) → fours bs at (suc n) ≡ fours bs at n ++ (four_at bs (at + 4 * n) ∷ [])
+-- number i of them
+four_of : (bs : List ℕ) (at n i : ℕ) → i < n → get_or (fours bs at n) i 0 ≡ four_at bs (at + 4 * i)
 unfolding fours
-fours_more bs at zero = ap (λ (i : ℕ). four_at bs i ∷ []) (let e : at ≡ at + 4 * 0 = omega arith in e)
-fours_more bs at (suc n) =
-    ap (λ (l : List ℕ). four_at bs at ∷ l)
-    (fours_more bs (at + 4) n ∙ ap (λ (i : ℕ). fours bs (at + 4) n ++ (four_at bs i ∷ [])) (let e : at + 4 + 4 * n ≡ at + 4 * suc n = omega arith in e))
+four_of bs at zero i h = absurd (omega arith)
+four_of bs at (suc n) zero h = ap (λ (k : ℕ). four_at bs k) (sym (add-zero at))
+four_of bs at (suc n) (suc i) h =
+    four_of bs (at + 4) n i (omega arith) ∙ ap (λ (k : ℕ). four_at bs k) (let e : at + 4 + 4 * i ≡ at + 4 * suc i = omega arith in e)
 
--- a row whose first n numbers are written takes the next, and has m then
-pub row_more : (bs : List ℕ) (at n m v : ℕ) (row now : List ℕ) → n < length row → m ≡ n + 1 → now ≡ fours bs at n ++ drop n row → v ≡ four_at bs (at + 4 * n)
-    → set now n v ≡ fours bs at m ++ drop m row
-row_more bs at n m v row now h a q e =
-    ap (λ (l : List ℕ). set l n v) q
-    ∙ ap (λ (l : List ℕ). set (fours bs at n ++ l) n v) (drop-cons row n 0 h)
-    ∙ set_at (fours bs at n) (get_or row n 0) (drop (suc n) row) v n (length_fours bs at n)
-    ∙ sym (append_snoc (fours bs at n) v (drop (suc n) row))
-    ∙ ap (λ (x : ℕ). (fours bs at n ++ (x ∷ [])) ++ drop (suc n) row) e
-    ∙ ap (λ (l : List ℕ). l ++ drop (suc n) row) (sym (fours_more bs at n))
-    ∙ ap (λ (i : ℕ). fours bs at i ++ drop i row) (let s : suc n ≡ m = omega (arith, a) in s)
-
-pub row_all : (bs : List ℕ) (at n count : ℕ) (row now : List ℕ) → n ≤ count → count ≤ n → now ≡ fours bs at n ++ drop n row
-    → now ≡ fours bs at count ++ drop count row
-row_all bs at n count row now a b q = q ∙ ap (λ (m : ℕ). fours bs at m ++ drop m row) (let e : n ≡ count = omega arith in e)
-
-pub row_none : (bs : List ℕ) (at : ℕ) (row : List ℕ) → row ≡ fours bs at 0 ++ drop 0 row
-unfolding fours
-row_none bs at row = refl
+-- numbers each of which is that number are the numbers
+pub fours_are : (n : ℕ) (bs : List ℕ) (at : ℕ) (row : List ℕ) → length row ≡ n → ((k : ℕ) → k < n → get_or row k 0 ≡ four_at bs (at + 4 * k))
+    → row ≡ fours bs at n
+fours_are n bs at row long each =
+    ext_get_or 0 row (fours bs at n) (long ∙ sym (length_fours bs at n))
+    (λ i h. let below : i < n = omega arith in each i below ∙ sym (four_of bs at n i below))
 
 -- ---- two numbers a sample
 
@@ -94,41 +78,12 @@ parts_stay bs more at (suc n) h =
     ap₂ (λ (a b : ℕ). a ∷ b ∷ parts (bs ++ more) (at + 8) n) (four_stays bs more at (omega arith)) (four_stays bs more (at + 4) (omega arith))
     ∙ ap (λ (l : List ℕ). four_at bs at ∷ four_at bs (at + 4) ∷ l) (parts_stay bs more (at + 8) n (omega arith))
 
-pub row_stays : (bs more row : List ℕ) (start count left sort : ℕ) → start + 8 * count ≤ length bs
-    → parts_row_by (Shown start count left) sort (bs ++ more) row ≡ parts_row_by (Shown start count left) sort bs row
-row_stays bs more row start count left sort h =
-    ap (λ (l : List ℕ). pick (is_complex sort) (pick (ltb (length row) (2 * count)) row (l ++ drop (2 * count) row)) row) (parts_stay bs more start count h)
+pub row_stays : (bs more row : List ℕ) (x : Shown) (sort : ℕ) → x.start + 8 * x.count ≤ length bs
+    → parts_row_by (Ok x) sort (bs ++ more) row ≡ parts_row_by (Ok x) sort bs row
+row_stays bs more row x sort h =
+    ap (λ (l : List ℕ). pick (is_complex sort) (pick (ltb (length row) (2 * x.count)) row (l ++ drop (2 * x.count) row)) row)
+    (parts_stay bs more x.start x.count h)
 
 -- counts leave the row as it was, whatever the bytes
-pub row_counts : (bs row : List ℕ) (start count left sort : ℕ) → is_complex sort ≡ false → parts_row_by (Shown start count left) sort bs row ≡ row
-row_counts bs row start count left sort k = simp k
-
--- ---- the copy by what the view shows
-
-module _ (v : View) (sort : ℕ) (bs row : List ℕ) where
-  pub copy_wait : (n : ℕ) → v ≡ Wait n → (Wait' n ≡ parts_copied_by v sort (length row)) × (row ≡ parts_row_by v sort bs row)
-  copy_wait n e = (sym (ap (λ (x : View). parts_copied_by x sort (length row)) e), sym (ap (λ (x : View). parts_row_by x sort bs row) e))
-
-  pub copy_refused : (r : Refusal) → v ≡ Refused r → (Refused' r ≡ parts_copied_by v sort (length row)) × (row ≡ parts_row_by v sort bs row)
-  copy_refused r e = (sym (ap (λ (x : View). parts_copied_by x sort (length row)) e), sym (ap (λ (x : View). parts_row_by x sort bs row) e))
-
-  module _ (start count left : ℕ) (e : v ≡ Shown start count left) where
-    pub copy_counts : is_complex sort ≡ false → (Refused' (bare_refusal 23) ≡ parts_copied_by v sort (length row)) × (row ≡ parts_row_by v sort bs row)
-    copy_counts k = (
-      sym (ap (λ (x : View). parts_copied_by x sort (length row)) e ∙ simp k),
-      sym (ap (λ (x : View). parts_row_by x sort bs row) e ∙ simp k),
-    )
-
-    pub copy_short : is_complex sort ≡ true → length row < 2 * count
-        → (Refused' (bare_refusal 15) ≡ parts_copied_by v sort (length row)) × (row ≡ parts_row_by v sort bs row)
-    copy_short k h = (
-      sym (ap (λ (x : View). parts_copied_by x sort (length row)) e ∙ simp (k, lt-ltb _ _ h)),
-      sym (ap (λ (x : View). parts_row_by x sort bs row) e ∙ simp (k, lt-ltb _ _ h)),
-    )
-
-    pub copy_done : is_complex sort ≡ true → 2 * count ≤ length row
-        → (Done count ≡ parts_copied_by v sort (length row)) × (parts bs start count ++ drop (2 * count) row ≡ parts_row_by v sort bs row)
-    copy_done k h = (
-      sym (ap (λ (x : View). parts_copied_by x sort (length row)) e ∙ simp (k, le-ltb _ _ h)),
-      sym (ap (λ (x : View). parts_row_by x sort bs row) e ∙ simp (k, le-ltb _ _ h)),
-    )
+pub row_counts : (bs row : List ℕ) (x : Shown) (sort : ℕ) → is_complex sort ≡ false → parts_row_by (Ok x) sort bs row ≡ row
+row_counts bs row x sort k = simp k

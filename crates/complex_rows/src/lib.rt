@@ -7,22 +7,14 @@ ghost use Rattle.words.specs.Words.{four_at};
 ghost use Rattle.complex_rows.specs.Parts.{fours, parts, parts_copied_by, parts_row_by, parts_copied, parts_row};
 
 use copies::Copied;
-use lines::View;
+use lines::{Unshown, View};
 
 // Number j, from 0, of those of four bytes that start there, some of which may lie behind the bytes.
 fn four_in(bytes: &[u8], start: u64, j: u64) -> u32
     ensures { result ≡ four_at bytes.now (start + 4 * j) }
 {
-    let len = bytes.len() as u64;
-    if start >= len {
-        return 0;
-    }
-    if j > (len - start) / 4 {
-        return 0;
-    }
-    let at = start + 4 * j;
-    let n = words::four(bytes, at as usize);
-    n as u32
+    let at = start.saturating_add(j.saturating_mul(4));
+    words::four(bytes, at as usize) as u32
 }
 
 // That many numbers of four bytes to the row's start, where some may lie behind the bytes; later numbers stay.
@@ -30,24 +22,9 @@ fn write_short(bytes: &[u8], start: u64, count: usize, row: &mut [u32])
     requires { count ≤ length row.old }
     ensures { row.new ≡ fours bytes.now start count ++ drop count row.old }
 {
-    let mut j = 0;
-    while j < count {
-        row[j] = four_in(bytes, start, j as u64);
-        j += 1;
+    for (j, x) in row[..count].iter_mut().enumerate() {
+        *x = four_in(bytes, start, j as u64);
     }
-}
-
-// Four bytes that are there, low byte first: the compiler reads those of several numbers at once. Read and swapped by
-// one function they would be read number by number (docs/SPEED.md).
-fn quad(bytes: &[u8], at: usize) -> u32
-    requires { at + 4 ≤ length bytes.now }
-    ensures { (result % 256 * 256 + result / 256 % 256) * 65536 + (result / 256 / 256 % 256 * 256 + result / 256 / 256 / 256) ≡ four_at bytes.now at }
-{
-    let a = bytes[at];
-    let b = bytes[at + 1];
-    let c = bytes[at + 2];
-    let d = bytes[at + 3];
-    (d as u32 * 256 + c as u32) * 65536 + (b as u32 * 256 + a as u32)
 }
 
 // A number of four bytes that are there, high byte first.
@@ -55,8 +32,7 @@ fn number(bytes: &[u8], at: usize) -> u32
     requires { at + 4 ≤ length bytes.now }
     ensures { result ≡ four_at bytes.now at }
 {
-    let x = quad(bytes, at);
-    (x % 256 * 256 + x / 256 % 256) * 65536 + (x / 256 / 256 % 256 * 256 + x / 256 / 256 / 256)
+    u32::from_be_bytes([bytes[at], bytes[at + 1], bytes[at + 2], bytes[at + 3]])
 }
 
 // The same of numbers that have all come, each read without a test.
@@ -64,10 +40,8 @@ fn write(bytes: &[u8], start: usize, count: usize, row: &mut [u32])
     requires { (start + 4 * count ≤ length bytes.now) × (count ≤ length row.old) }
     ensures { row.new ≡ fours bytes.now start count ++ drop count row.old }
 {
-    let mut j = 0;
-    while j < count {
-        row[j] = number(bytes, start + 4 * j);
-        j += 1;
+    for (j, x) in row[..count].iter_mut().enumerate() {
+        *x = number(bytes, start + 4 * j);
     }
 }
 
@@ -77,13 +51,11 @@ fn fill(bytes: &[u8], start: u64, count: usize, row: &mut [u32])
     ensures { row.new ≡ parts bytes.now start count ++ drop (2 * count) row.old }
 {
     let len = bytes.len() as u64;
-    if start <= len {
-        if count as u64 <= (len - start) / 8 {
-            write(bytes, start as usize, 2 * count, row);
-            return;
-        }
+    if start <= len && count as u64 <= (len - start) / 8 {
+        write(bytes, start as usize, 2 * count, row);
+    } else {
+        write_short(bytes, start, 2 * count, row);
     }
-    write_short(bytes, start, 2 * count, row);
 }
 
 // The complex row copy: the patterns of the line's samples, real then imaginary, to the start of the lent row.
@@ -92,20 +64,16 @@ pub fn complex_row_in(bytes: &[u8], v: View, sort: u64, row: &mut [u32]) -> Copi
     ensures value { result ≡ parts_copied_by v sort (length row.old) }
     ensures row_after { row.new ≡ parts_row_by v sort bytes.now row.old }
 {
-    match v {
-        View::Wait(n) => Copied::Wait(n),
-        View::Refused(r) => Copied::Refused(r),
-        View::Shown(start, count, _) => {
-            if samples::is_complex(sort) {
-                if (row.len() as u64) / 2 < count {
-                    return Copied::Refused(words::bare(15));
-                }
-                fill(bytes, start, count as usize, row);
-                return Copied::Done(count);
-            }
-            Copied::Refused(words::bare(23))
-        }
+    let shown = v?;
+    if !samples::is_complex(sort) {
+        return Err(Unshown::Refused(words::bare(23)));
     }
+    let count = shown.count;
+    if (row.len() as u64) / 2 < count {
+        return Err(Unshown::Refused(words::bare(15)));
+    }
+    fill(bytes, shown.start, count as usize, row);
+    Ok(count)
 }
 
 // The complex row copy of line k of an image prefix held from byte 0: the line's own wait or refusal, then 23
@@ -115,6 +83,5 @@ pub fn complex_row(bytes: &[u8], k: u64, row: &mut [u32]) -> Copied
     ensures row_after { row.new ≡ parts_row bytes.now k row.old }
 {
     let x = lines::sorted_view(bytes, k);
-    let v = x.view;
-    complex_row_in(bytes, v, x.sort, row)
+    complex_row_in(bytes, x.view, x.sort, row)
 }

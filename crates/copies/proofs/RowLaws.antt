@@ -1,36 +1,27 @@
 -- The row's start, sample by sample: samples one more at a time, each where it stands, and what a copy leaves of the row behind them.
 use Prim.Native.Nat.{ℕ, zero, suc, ◌+◌, ◌*◌, ◌≤◌, ◌<◌}
 use mathlib.Core.Path.{◌≡◌, refl, sym, ap, ◌∙◌, subst}
-use mathlib.Core.List.{List, [], ◌∷◌, ◌++◌}
+use mathlib.Core.List.{List, ◌++◌}
 use native.Mathlib.Omega.{arith}
 use native.Mathlib.Nat.{add-zero, zero-add}
-use lib.ListN.{length, get_or, set, take, drop}
-use lib.Seq.{set_at, drop-cons, append_snoc}
+use lib.ListN.{length, get_or, take, drop}
+use Rattle.std.proofs.lemmas.List.{ext_get_or}
 use borrow.Author.Tests.{lt-ltb, le-ltb, eq-eqb, ne_eqb}
 use Rattle.words.specs.Words.{two_at}
 use Rattle.words.specs.Answer.{bare_refusal}
-use Rattle.words.specs.declared.Refusal.{Refusal}
 use Rattle.plan.specs.Tables.{sort_of}
-use Rattle.lines.specs.View.{view_of, sort_seen, sorted_of}
+use Rattle.lines.specs.View.{View, sorted_of}
 use Rattle.lines.specs.declared.Sorted.{Sorted}
 use Rattle.lines.proofs.InsideLaws.{shown_within}
 use Rattle.copies.specs.Row.{samples_from, samples, copied_by, row_by, copied_of, row_of}
-use Rattle.lines.specs.declared.View.{View}
-use Rattle.lines.specs.declared.View.TheVariants.{Shown, Wait, Refused}
-use Rattle.copies.specs.declared.Copied.TheVariants.{Done, Wait as Wait', Refused as Refused'}
+use Rattle.lines.specs.declared.Shown.{Shown}
+use Rattle.lines.specs.declared.Unshown.TheVariants.{Refused}
+use Rattle.std.specs.Prelude.{Ok, Err}
 
 pub length_samples : (j n : ℕ) (px : List ℕ) → length (samples_from j n px) ≡ n
 unfolding samples_from
 length_samples j zero px = refl
 length_samples j (suc n) px = ap suc (length_samples (suc j) n px)
-
--- one sample more
-samples_more : (j n : ℕ) (px : List ℕ) → samples_from j (suc n) px ≡ samples_from j n px ++ (two_at px (2 * (j + n)) ∷ [])
-unfolding samples_from
-samples_more j zero px = ap (λ (i : ℕ). two_at px (2 * i) ∷ []) (sym (add-zero j))
-samples_more j (suc n) px =
-    ap (λ (l : List ℕ). two_at px (2 * j) ∷ l)
-    (samples_more (suc j) n px ∙ ap (λ (i : ℕ). samples_from (suc j) n px ++ (two_at px (2 * i) ∷ [])) (let e : suc j + n ≡ j + suc n = omega arith in e))
 
 -- sample i of them
 pub sample_at_lem : (j n i : ℕ) (px : List ℕ) → i < n → get_or (samples_from j n px) i 0 ≡ two_at px (2 * (j + i))
@@ -40,34 +31,21 @@ sample_at_lem j (suc n) zero px h = ap (λ (i : ℕ). two_at px (2 * i)) (sym (a
 sample_at_lem j (suc n) (suc i) px h =
     sample_at_lem (suc j) n i px (omega arith) ∙ ap (λ (m : ℕ). two_at px (2 * m)) (let e : suc j + i ≡ j + suc i = omega arith in e)
 
--- a row whose first n samples are written takes the next, and has m then
-pub row_more : (n m at v : ℕ) (px row now : List ℕ) → n < length row → m ≡ n + 1 → at ≡ 2 * n → now ≡ samples n px ++ drop n row → v ≡ two_at px at
-    → set now n v ≡ samples m px ++ drop m row
-row_more n m at v px row now h a g q e =
-    ap (λ (l : List ℕ). set l n v) q
-    ∙ ap (λ (l : List ℕ). set (samples n px ++ l) n v) (drop-cons row n 0 h)
-    ∙ set_at (samples n px) (get_or row n 0) (drop (suc n) row) v n (length_samples 0 n px)
-    ∙ sym (append_snoc (samples n px) v (drop (suc n) row))
-    ∙ ap (λ (x : ℕ). (samples n px ++ (x ∷ [])) ++ drop (suc n) row) (e ∙ ap (λ (i : ℕ). two_at px i) (g ∙ ap (λ (i : ℕ). 2 * i) (sym (zero-add n))))
-    ∙ ap (λ (l : List ℕ). l ++ drop (suc n) row) (sym (samples_more 0 n px))
-    ∙ ap (λ (i : ℕ). samples i px ++ drop i row) (let s : suc n ≡ m = omega (arith, a) in s)
-
-pub row_all : (n count : ℕ) (px row now : List ℕ) → n ≤ count → count ≤ n → now ≡ samples n px ++ drop n row → now ≡ samples count px ++ drop count row
-row_all n count px row now a b q = q ∙ ap (λ (m : ℕ). samples m px ++ drop m row) (let e : n ≡ count = omega arith in e)
-
-pub row_none : (px row : List ℕ) → row ≡ samples 0 px ++ drop 0 row
-unfolding samples_from
-row_none px row = refl
+-- numbers each of which is that sample are the samples
+pub samples_are : (n : ℕ) (px row : List ℕ) → length row ≡ n → ((k : ℕ) → k < n → get_or row k 0 ≡ two_at px (2 * k)) → row ≡ samples n px
+samples_are n px row long each =
+    ext_get_or 0 row (samples n px) (long ∙ sym (length_samples 0 n px))
+    (λ i h. let below : i < n = omega arith in
+    each i below ∙ sym (sample_at_lem 0 n i px below ∙ ap (λ (m : ℕ). two_at px (2 * m)) (zero-add i)))
 
 -- ---- the copy by what the view shows
 
 -- the data pixels of counts, of two bytes each, lie within the bytes held
-pub counts_within : (bs : List ℕ) (k : ℕ) (x : Sorted) → x ≡ sorted_of bs k → (start count left : ℕ) → x.view ≡ Shown start count left → x.sort ≡ 0
-    → start + 2 * count ≤ length bs
+pub counts_within : (bs : List ℕ) (k : ℕ) (x : Sorted) → x ≡ sorted_of bs k → (y : Shown) → x.view ≡ Ok y → x.sort ≡ 0 → y.start + 2 * y.count ≤ length bs
 unfolding sort_of
-counts_within bs k x sees start count left e none =
-    subst (λ (i : ℕ). start + (sort_of i).group * count ≤ length bs) (sym (ap (λ (y : Sorted). y.sort) sees) ∙ none)
-    (shown_within bs k start count left (sym (ap (λ (y : Sorted). y.view) sees) ∙ e))
+counts_within bs k x sees y e none =
+    subst (λ (i : ℕ). y.start + (sort_of i).group * y.count ≤ length bs) (sym (ap (λ (z : Sorted). z.sort) sees) ∙ none)
+    (shown_within bs k y.start y.count y.left (sym (ap (λ (z : Sorted). z.view) sees) ∙ e))
 
 module _ (bs : List ℕ) (k : ℕ) (row : List ℕ) (x : Sorted) (sees : x ≡ sorted_of bs k) where
   copied_is : (v : View) → x.view ≡ v → copied_of bs k (length row) ≡ copied_by v x.sort (length row)
@@ -79,28 +57,22 @@ module _ (bs : List ℕ) (k : ℕ) (row : List ℕ) (x : Sorted) (sees : x ≡ s
   unfolding row_of
   row_is v e = ap (λ (y : Sorted). row_by y.view y.sort bs row) (sym sees) ∙ ap (λ (y : View). row_by y x.sort bs row) e
 
-  pub copy_wait : (n : ℕ) → x.view ≡ Wait n → (Wait' n ≡ copied_of bs k (length row)) × (row ≡ row_of bs k row)
-  copy_wait n e = (sym (copied_is (Wait n) e), sym (row_is (Wait n) e))
-
-  pub copy_refused : (r : Refusal) → x.view ≡ Refused r → (Refused' r ≡ copied_of bs k (length row)) × (row ≡ row_of bs k row)
-  copy_refused r e = (sym (copied_is (Refused r) e), sym (row_is (Refused r) e))
-
-  module _ (start count left : ℕ) (e : x.view ≡ Shown start count left) where
-    pub copy_sort : (x.sort ≡ 0 → ⊥) → (Refused' (bare_refusal 23) ≡ copied_of bs k (length row)) × (row ≡ row_of bs k row)
+  module _ (y : Shown) (e : x.view ≡ Ok y) where
+    pub copy_sort : (x.sort ≡ 0 → ⊥) → (Err (Refused (bare_refusal 23)) ≡ copied_of bs k (length row)) × (row ≡ row_of bs k row)
     copy_sort n = (
       sym (copied_is _ e ∙ simp (ne_eqb x.sort 0 n)),
       sym (row_is _ e ∙ simp (ne_eqb x.sort 0 n)),
     )
 
     module _ (counts : x.sort ≡ 0) where
-      pub copy_short : length row < count → (Refused' (bare_refusal 15) ≡ copied_of bs k (length row)) × (row ≡ row_of bs k row)
+      pub copy_short : length row < y.count → (Err (Refused (bare_refusal 15)) ≡ copied_of bs k (length row)) × (row ≡ row_of bs k row)
       copy_short h = (
         sym (copied_is _ e ∙ simp (eq-eqb x.sort 0 counts, lt-ltb _ _ h)),
         sym (row_is _ e ∙ simp (eq-eqb x.sort 0 counts, lt-ltb _ _ h)),
       )
 
-      pub copy_done : count ≤ length row → (px : List ℕ) → px ≡ take (2 * count) (drop start bs)
-          → (Done count ≡ copied_of bs k (length row)) × (samples count px ++ drop count row ≡ row_of bs k row)
+      pub copy_done : y.count ≤ length row → (px : List ℕ) → px ≡ take (2 * y.count) (drop y.start bs)
+          → (Ok y.count ≡ copied_of bs k (length row)) × (samples y.count px ++ drop y.count row ≡ row_of bs k row)
       copy_done h px q = (
         sym (copied_is _ e ∙ simp (eq-eqb x.sort 0 counts, le-ltb _ _ h)),
         sym (row_is _ e ∙ simp (eq-eqb x.sort 0 counts, le-ltb _ _ h, q)),

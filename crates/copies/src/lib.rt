@@ -6,35 +6,17 @@ ghost use Rattle.std.specs.Prelude.{◌≡◌, ◌++◌, ◌+◌, ◌*◌, ◌�
 ghost use Rattle.words.specs.Words.{two_at};
 ghost use Rattle.copies.specs.Row.{samples, copied_of, row_of};
 
-use lines::View;
-use words::Refusal;
+use lines::Unshown;
 
 // What the row copy answers: how many samples were copied; or a wait or a refusal, and nothing was.
-#[derive(Clone, Copy)]
-pub enum Copied {
-    Done(u64),
-    Wait(u64),
-    Refused(Refusal),
-}
-
-// Two bytes that are there, low byte first: the compiler reads them at once. Read and swapped by one
-// function they would be read one by one (docs/SPEED.md).
-fn pair(px: &[u8], at: usize) -> u16
-    requires { at + 2 ≤ length px.now }
-    ensures { result % 256 * 256 + result / 256 ≡ two_at px.now at }
-{
-    let low = px[at];
-    let high = px[at + 1];
-    high as u16 * 256 + low as u16
-}
+pub type Copied = Result<u64, Unshown>;
 
 // A sample of two bytes that are there, high byte first.
 fn sample(px: &[u8], at: usize) -> u16
     requires { at + 2 ≤ length px.now }
     ensures { result ≡ two_at px.now at }
 {
-    let x = pair(px, at);
-    x % 256 * 256 + x / 256
+    u16::from_be_bytes([px[at], px[at + 1]])
 }
 
 // That many samples of two bytes, high byte first, to the row's start; later samples stay.
@@ -42,10 +24,8 @@ fn write(px: &[u8], count: usize, row: &mut [u16])
     requires { (2 * count ≤ length px.now) × (count ≤ length row.old) }
     ensures { row.new ≡ samples count px.now ++ drop count row.old }
 {
-    let mut j = 0;
-    while j < count {
-        row[j] = sample(px, 2 * j);
-        j += 1;
+    for (j, x) in row[..count].iter_mut().enumerate() {
+        *x = sample(px, 2 * j);
     }
 }
 
@@ -56,21 +36,16 @@ pub fn row_copy(bytes: &[u8], k: u64, row: &mut [u16]) -> Copied
     ensures row_after { row.new ≡ row_of bytes.now k row.old }
 {
     let x = lines::sorted_view(bytes, k);
-    let v = x.view;
-    match v {
-        View::Wait(n) => Copied::Wait(n),
-        View::Refused(r) => Copied::Refused(r),
-        View::Shown(start, count, _) => {
-            if x.sort != plan::COUNTS {
-                return Copied::Refused(words::bare(23));
-            }
-            if (row.len() as u64) < count {
-                return Copied::Refused(words::bare(15));
-            }
-            let from = start as usize;
-            let to = (start + 2 * count) as usize;
-            write(&bytes[from..to], count as usize, row);
-            Copied::Done(count)
-        }
+    let shown = x.view?;
+    if x.sort != plan::COUNTS {
+        return Err(Unshown::Refused(words::bare(23)));
     }
+    let count = shown.count;
+    if (row.len() as u64) < count {
+        return Err(Unshown::Refused(words::bare(15)));
+    }
+    let from = shown.start as usize;
+    let to = (shown.start + 2 * count) as usize;
+    write(&bytes[from..to], count as usize, row);
+    Ok(count)
 }

@@ -226,7 +226,8 @@ number (Fixed d) bs f = go (mantissa_of true d bs) refl
     go None q = none
 number (Expo d) bs f = go (mantissa_of true d (take (length bs - 4) bs)) (exponent_of (drop (length bs - 4) bs)) refl refl
   where
-    go : (x y : Option Signed) → mantissa_of true d (take (length bs - 4) bs) ≡ x → exponent_of (drop (length bs - 4) bs) ≡ y → Found (Expo d) bs (scaled_of x y)
+    go : (x y : Option Signed) → mantissa_of true d (take (length bs - 4) bs) ≡ x → exponent_of (drop (length bs - 4) bs) ≡ y
+        → Found (Expo d) bs (scaled_of x y)
     go (Some y) (Some z) p q =
         let fs = take (length bs - 4) bs in
         let xs = drop (length bs - 4) bs in

@@ -110,6 +110,7 @@ fn scaled(x: Option<Signed>, y: Option<Signed>) -> Written
 }
 
 // What the bytes of a field of this shape say whose first byte that is no blank stands at k.
+#[inline(always)]
 #[tactic(auto, unfolding(crate::specs::Scan::number_in))]
 fn number_in(f: &[u8], k: usize, shape: Shape) -> Written
     requires skipped { Skipped f.now 0 (length f.now) k }
@@ -130,6 +131,7 @@ fn number_in(f: &[u8], k: usize, shape: Shape) -> Written
 
 // What the bytes of a field of this shape say, whose width the caller has seen to. The blanks are looked
 // at once, and what follows them is read by its place (docs/SPEED.md).
+#[inline(always)]
 pub fn shaped(f: &[u8], shape: Shape) -> Written
     requires { Fit shape (length f.now) }
     ensures { result ≡ decimal_of shape f.now }

@@ -155,7 +155,8 @@ module _ (b : List ℕ) (at : ℕ) (k : Form) (here : at + width_of k ≤ length
         );
         blanked = (
           λ q.
-              let f = of_read k (field_bytes b at k) blank_written (blank_of (bad_place b at k) _ (sym told ∙ q)) (λ z. let c : ◌≡◌ {A = ℕ} 0 1 = cc in omega arith) in
+              let f = of_read k (field_bytes b at k) blank_written (blank_of (bad_place b at k) _ (sym told ∙ q))
+              (λ z. let c : ◌≡◌ {A = ℕ} 0 1 = cc in omega arith) in
               all_blank f.1 refl ∙ ap (λ (i : ℕ). replicate i 32) bs_length,
           λ e. answered
               (reads k (field_bytes b at k) blank_written

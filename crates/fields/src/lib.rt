@@ -57,6 +57,8 @@ fn short(bytes: &[u8], at: usize, n: usize) -> bool
 }
 
 // A number of this shape in n bytes at a place. Bytes that end before the field does are refusal 2.
+// It is made anew at each call, so that the compiler knows each form's width and places (docs/SPEED.md).
+#[inline(always)]
 #[tactic(auto, unfolding(crate::specs::Shaped::shaped_at))]
 fn shaped_at(bytes: &[u8], at: usize, n: usize, shape: Shape) -> Field
     requires { Fit shape n }

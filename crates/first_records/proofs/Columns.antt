@@ -9,13 +9,13 @@ use native.Mathlib.Nat.{pow-suc, pow-zero}
 use lib.IntN.{pos}
 use lib.ListN.{length, length-append}
 use Rattle.words.specs.Words.{place_of}
+use Rattle.decimal.specs.Written.{number_written}
 use Rattle.decimal.specs.Forms.{width_of, shape_of}
 use Rattle.decimal.specs.Grammar.{Numeral, after, bare, Good, WholeNumber, whole}
 use Rattle.decimal.specs.Grammar as grammar
 use Rattle.decimal.specs.declared.Form.{Form}
 use Rattle.decimal.specs.declared.Shape.{Shape}
 use Rattle.decimal.specs.declared.Shape.TheVariants.{Whole}
-use Rattle.decimal.specs.declared.Written.TheVariants.{Number}
 use Rattle.decimal.proofs.Complete.{after_append}
 use Rattle.fields.specs.Field.{field_bytes}
 use Rattle.promises.specs.Bytes.{Bytes}
@@ -56,10 +56,10 @@ pub columns_bytes : (w n : ℕ) → Bytes (columns w n)
 columns_bytes w n = numeral_bytes (columns w n) (spelt w n).digits
 
 -- digits alone are a whole number
-columns_good : (w n : ℕ) → 1 ≤ w → n < 10 ^ w → Good true Whole (columns w n) (Number (pos n) (pos 0))
+columns_good : (w n : ℕ) → 1 ≤ w → n < 10 ^ w → Good true Whole (columns w n) (number_written (pos n) (pos 0))
 columns_good w n h l =
     let s = spelt w n in
-    subst (λ (m : ℕ). Good true Whole (columns w n) (Number (pos m) (pos 0))) (s.value l)
+    subst (λ (m : ℕ). Good true Whole (columns w n) (number_written (pos m) (pos 0))) (s.value l)
     (Good.whole (WholeNumber.whole 0 (columns w n) bare s.digits (let e = s.size in omega arith)))
 
 -- a field of those bytes says the number, and lies in a range that its columns hold
@@ -67,9 +67,10 @@ module _ (r : List ℕ) (byte : ℕ) (k : Form) (plain : shape_of k ≡ Whole) (
   pub numbered : field_bytes r (place_of byte) k ≡ columns (width_of k) n → Within lo hi n → Numbered r byte k lo hi n
   numbered e h =
       record {
-        says = subst (λ (bs : List ℕ). grammar.WellWritten k bs (Number (pos n) (pos 0))) (sym e) (
+        says = subst (λ (bs : List ℕ). grammar.WellWritten k bs (number_written (pos n) (pos 0))) (sym e) (
           (spelt (width_of k) n).size,
-          subst (λ (s : Shape). Good true s (columns (width_of k) n) (Number (pos n) (pos 0))) (sym plain) (columns_good (width_of k) n wide (omega arith)),
+          subst (λ (s : Shape). Good true s (columns (width_of k) n) (number_written (pos n) (pos 0))) (sym plain)
+              (columns_good (width_of k) n wide (omega arith)),
         );
         least = h.low;
         most = h.high;

@@ -9,18 +9,17 @@ use native.Mathlib.Nat.{add-zero}
 use native.Mathlib.Omega.{arith}
 use lib.ListN.{length, take, drop}
 use lib.Seq.{take_at, drop_at}
+use Rattle.std.specs.Prelude.{Ok}
 use Rattle.plan.specs.Tables.{rows}
 use Rattle.plan.specs.Plan.{first_length, total_of, spot_of, plan_good, due_of}
 use Rattle.plan.specs.declared.Plan.{Plan}
 use Rattle.bodies.specs.Named.{plan_of}
 use Rattle.bodies.specs.Bodies.{body_of}
-use Rattle.verdicts.specs.declared.Verdict.TheVariants.{Fine}
 use Rattle.headers.specs.Header.{header_of}
 use Rattle.walk.specs.State.{fresh, good_state, next_due}
 use Rattle.walk.specs.Walk.{turn_of, next_of, walk_of}
 use Rattle.walk.specs.declared.State.{State}
 use Rattle.walk.specs.declared.Walked.{Walked}
-use Rattle.turns.specs.declared.Turn.TheVariants.{Pass}
 use Rattle.walk.proofs.KeptLaws.{good_kept}
 use Rattle.walk.proofs.LoopLaws.{walk_pass, walk_pause}
 use Rattle.walk.proofs.TurnLaws.{next_as_later}
@@ -41,7 +40,7 @@ use Rattle.first_records.proofs.AllowedNamed.{allowed_named, zero_plan_lem}
 use Rattle.first_records.proofs.StateRule.{state_rule}
 
 -- what a walk hands back behind a turn that passes
-behind_turn : (st : State) (bs : List ℕ) (n : ℕ) → good_state st ≡ true → turn_of st bs false ≡ Pass
+behind_turn : (st : State) (bs : List ℕ) (n : ℕ) → good_state st ≡ true → turn_of st bs false ≡ Ok tt
     → (walk_of (suc n) st bs false).state ≡ (walk_of n (next_of st bs) (drop (next_due st).length bs) false).state
 behind_turn st bs n g t = ap (λ (w : Walked). w.state) (walk_pass st bs false n g t)
 
@@ -66,8 +65,8 @@ module _ (kind : Kind) (p : Plan) (c : length p.counts ≡ rows) (l : length p.l
       go (later_some (kind_number kind) p k (kind_low kind).0 (kind_low kind).1 g c l h (omega arith)) (more d (k + 1) (omega arith) (omega arith))
     where
       go : (r : List ℕ) × Bytes r × (length r ≡ (due_of (kind_number kind) p k).length)
-          × (header_of (due_of (kind_number kind) p k).ordinal (due_of (kind_number kind) p k).codes (due_of (kind_number kind) p k).length r ≡ Fine)
-          × (body_of (kind_number kind) (due_of (kind_number kind) p k).run p k r ≡ Fine) → More (k + 1) d → More k (suc d)
+          × (header_of (due_of (kind_number kind) p k).ordinal (due_of (kind_number kind) p k).codes (due_of (kind_number kind) p k).length r ≡ Ok tt)
+          × (body_of (kind_number kind) (due_of (kind_number kind) p k).run p k r ≡ Ok tt) → More (k + 1) d → More k (suc d)
       go (r, b, size, head, body) (ys, y, e) =
           let st = after k in
           let gs = good k h (omega arith) in

@@ -3,14 +3,12 @@ use mathlib.Core.Path.{◌≡◌, refl, sym, ◌∙◌, subst}
 use mathlib.Core.Bool.{Bool, true, false, not, false≢true, true≢false}
 use Prim.Native.Nat.{ℕ, ◌%◌, ◌<◌, ◌≤◌}
 use native.Mathlib.Nat.{not-le_of_lt}
-use native.Mathlib.Omega.{arith}
 use lib.Dec.{T, ltb, lt→ltb, ltb→lt, not_T}
 use lib.Ieee.{Float, nan, inf, fin, binary32, add, mul, div, neg, lt, is_nan, nan_bits, of_bits, to_bits}
 use lib.Ieee.Bits.{is_true, to_bits-of_bits, nan_bits_is, nan_bits_above}
 use Rattle.words.specs.Tests.{pick, both_of}
 use Rattle.floats.specs.Floats.{float_of, finite_of, squares, all_finite, power_of}
-use Rattle.floats.specs.declared.Power.{Power}
-use Rattle.floats.specs.declared.Power.TheVariants.{Bits, NotFinite}
+use Rattle.std.specs.Prelude.{Some, None}
 
 -- ---- the test against the infinities
 
@@ -116,29 +114,26 @@ last_no true false c h = refl
 last_no false b c h = refl
 
 module _ (re im : ℕ) (p : Float) (is : p ≡ squares (float_of re) (float_of im)) where
-  pub power_yes : finite_of p ≡ true → Bits (to_bits binary32 p) ≡ power_of re im
+  pub power_yes : finite_of p ≡ true → Some (to_bits binary32 p) ≡ power_of re im
   unfolding power_of all_finite
   power_yes h =
       let f : finite_of (squares (float_of re) (float_of im)) ≡ true = rw is at h in
       rw (re_fin (float_of re) (float_of im) f, im_fin (float_of re) (float_of im) f, f, is)
 
-  pub power_no : finite_of p ≡ false → NotFinite ≡ power_of re im
+  pub power_no : finite_of p ≡ false → None ≡ power_of re im
   unfolding power_of all_finite
   power_no h = rw (last_no (finite_of (float_of re)) (finite_of (float_of im)) (finite_of (squares (float_of re) (float_of im))) (rw is at h))
 
 -- ---- there is no power exactly where a part or the power is not finite
 
-bits≢none : (n : ℕ) → ◌≡◌ {A = Power} (Bits n) NotFinite → ⊥
-bits≢none n e = let z : ◌≡◌ {A = ℕ} 0 1 = cc in omega arith
-
-pub none_why : (re im : ℕ) → power_of re im ≡ NotFinite → all_finite (float_of re) (float_of im) ≡ false
+pub none_why : (re im : ℕ) → power_of re im ≡ None → all_finite (float_of re) (float_of im) ≡ false
 unfolding power_of
 none_why re im e = go (all_finite (float_of re) (float_of im)) e
   where
-    go : (b : Bool) → pick b (Bits (to_bits binary32 (squares (float_of re) (float_of im)))) NotFinite ≡ NotFinite → b ≡ false
-    go true e = absurd (bits≢none _ e)
+    go : (b : Bool) → pick b (Some (to_bits binary32 (squares (float_of re) (float_of im)))) None ≡ None → b ≡ false
+    go true e = cc
     go false e = refl
 
-pub why_none : (re im : ℕ) → all_finite (float_of re) (float_of im) ≡ false → power_of re im ≡ NotFinite
+pub why_none : (re im : ℕ) → all_finite (float_of re) (float_of im) ≡ false → power_of re im ≡ None
 unfolding power_of
 why_none re im h = simp h

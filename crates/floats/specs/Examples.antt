@@ -1,9 +1,7 @@
 -- Worked numbers, as rows of one list: the patterns of two parts, and their power. By computation.
-use Rattle.std.specs.Prelude.{ℕ, ◌≡◌, refl, List, [], ◌∷◌, map}
+use Rattle.std.specs.Prelude.{ℕ, ◌≡◌, refl, List, [], ◌∷◌, map, Option, Some, None}
 use Rattle.std.specs.Float.Ieee.{add, mul, of_bits, to_bits}
 use Rattle.floats.specs.Floats.{finite_of, squares, all_finite, power_of}
-use Rattle.floats.specs.declared.Power.{Power}
-use Rattle.floats.specs.declared.Power.TheVariants.{Bits, NotFinite}
 
 -- two patterns, real and imaginary
 pub record Parts : Type 0 where
@@ -25,8 +23,8 @@ table =
     ∷ []
 
 -- what their powers are
-abbrev pub said : List Power
-said = Bits 0x41c8_0000 ∷ NotFinite ∷ NotFinite ∷ NotFinite ∷ Bits 0 ∷ Bits 0x4084_3618 ∷ []
+abbrev pub said : List (Option ℕ)
+said = Some 0x41c8_0000 ∷ None ∷ None ∷ None ∷ Some 0 ∷ Some 0x4084_3618 ∷ []
 
 pub examples : map (λ x. power_of x.re x.im) table ≡ said
 unfolding power_of all_finite squares finite_of add mul of_bits to_bits

@@ -1,10 +1,8 @@
 -- Single precision and the power of a complex sample (request No. 2), in the words of `lib.Ieee`. Assumes nothing.
-use Rattle.std.specs.Prelude.{ℕ, Bool, true, false, Float}
+use Rattle.std.specs.Prelude.{ℕ, Bool, true, false, Float, Option, Some, None}
 use Rattle.std.specs.Float.{nan, inf, fin, binary32}
 use Rattle.std.specs.Float.Ieee.{add, mul, of_bits, to_bits}
 use Rattle.words.specs.Tests.{pick, both_of}
-use Rattle.floats.specs.declared.Power.{Power}
-use Rattle.floats.specs.declared.Power.TheVariants.{Bits, NotFinite}
 
 -- the float of a pattern; every NaN's pattern gives the one NaN
 abbrev pub float_of : ℕ → Float
@@ -25,5 +23,5 @@ unfoldable pub all_finite : Float → Float → Bool
 all_finite re im = both_of (finite_of re) (both_of (finite_of im) (finite_of (squares re im)))
 
 -- the power's pattern, where a part or the power is not finite none
-unfoldable pub power_of : ℕ → ℕ → Power
-power_of re im = pick (all_finite (float_of re) (float_of im)) (Bits (to_bits binary32 (squares (float_of re) (float_of im)))) NotFinite
+unfoldable pub power_of : ℕ → ℕ → Option ℕ
+power_of re im = pick (all_finite (float_of re) (float_of im)) (Some (to_bits binary32 (squares (float_of re) (float_of im)))) None

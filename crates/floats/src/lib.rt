@@ -7,13 +7,6 @@
 ghost use Rattle.std.specs.Prelude.{◌≡◌};
 ghost use Rattle.floats.specs.Floats.{float_of, finite_of, squares, power_of};
 
-// The power of a complex sample: its pattern, or a part of the sample or the power is not finite.
-#[derive(Clone, Copy)]
-pub enum Power {
-    Bits(u32),
-    NotFinite,
-}
-
 // The float of a pattern; for each NaN's pattern the one NaN.
 pub fn float_of(n: u32) -> f32
     ensures { result ≡ float_of n }
@@ -41,14 +34,15 @@ pub fn squares_of(re: f32, im: f32) -> f32
     re * re + im * im
 }
 
-// The power of the sample that these two patterns are. A power is finite only where both parts are.
-pub fn power_of(re: u32, im: u32) -> Power
+// The power of the sample that these two patterns are, as a pattern; none where a part or the power is not
+// finite. A power is finite only where both parts are.
+pub fn power_of(re: u32, im: u32) -> Option<u32>
     ensures { result ≡ power_of re im }
 {
     let p = squares_of(float_of(re), float_of(im));
     if finite(p) {
-        Power::Bits(f32::to_bits(p))
+        Some(f32::to_bits(p))
     } else {
-        Power::NotFinite
+        None
     }
 }

@@ -3,8 +3,7 @@ use Rattle.std.specs.Prelude.{ℕ, List, [], ◌∷◌, Bool, true, eqb}
 use Rattle.words.specs.Tests.{pick, both_of}
 use Rattle.words.specs.Words.{byte_at, four_at}
 use Rattle.plan.specs.declared.Codes.{Codes}
-use Rattle.verdicts.specs.Tests.{Test, test, first_fault}
-use Rattle.verdicts.specs.declared.Verdict.{Verdict}
+use Rattle.verdicts.specs.Tests.{Test, Verdict, test, first_fault}
 
 -- 5. header: sequence number (3), codes (4), length (5), each at its first byte
 unfoldable pub codes_are : List ℕ → Codes → Bool

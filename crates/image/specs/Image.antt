@@ -1,19 +1,17 @@
 -- The tests of an image's records, in document 01's order and with its byte numbers (from 1): fixed texts by position, then number fields by
 -- position, then agreements; the plan's numbers that its descriptor names; and a line's tests ("First records and what they promise"; 000, 002). Assumes
 -- nothing.
-use Rattle.std.specs.Prelude.{ℕ, ◌+◌, ◌*◌, ◌≡◌, List, [], ◌∷◌, ◌++◌, map, eqb, leb, get_or}
+use Rattle.std.specs.Prelude.{ℕ, ◌+◌, ◌*◌, List, [], ◌∷◌, ◌++◌, map, eqb, leb, get_or, Result}
 use Rattle.words.specs.Tests.{pick}
 use Rattle.words.specs.Words.{place_of, four_at}
+use Rattle.words.specs.declared.Refusal.{Refusal}
 use Rattle.decimal.specs.declared.Form.TheVariants.{I4, I6, I8}
-use Rattle.fields.specs.declared.Field.{Field}
+use Rattle.decimal.specs.declared.Number.{Number as Value}
 use Rattle.plan.specs.Tables.{sort_of}
-use Rattle.verdicts.specs.Tests.{Test, test, text_at, text_test, first_fault, needed_of}
+use Rattle.verdicts.specs.Tests.{Test, test, text_at, text_test, first_fault, named_by, needed_of}
 use Rattle.verdicts.specs.Numbers.{Number, number, at, last_of, number_at, numbers_tests, first_text}
-use Rattle.verdicts.specs.declared.Verdict.{Verdict}
-use Rattle.verdicts.specs.declared.Verdict.TheVariants.{Fine, Fault}
 use Rattle.image.specs.declared.Described.{Described}
 use Rattle.image.specs.declared.Fills.{Fills}
-use Rattle.image.specs.declared.Numbers.{Numbers}
 
 -- the text at 429 decides the sort: complex where it is that sort's text, and else counts, whose text it must then be
 abbrev pub sort_in : List ℕ → ℕ
@@ -55,14 +53,10 @@ image_texts r = first_text r ∷ text_test r 429 (sort_of (sort_in r)).text ∷ 
 unfoldable pub image_tests : List ℕ → List Test
 image_tests r = image_texts r ++ (numbers_tests r (image_numbers (sort_in r)) ++ agreements r)
 
--- what is found in a descriptor: the plan's numbers that it names, or its first fault and zeros
-abbrev pub unnamed : Verdict → Described
-unnamed v = record { verdict = v; n = 0; l = 0; w = 0; d = 0; s = 0; sort = 0 }
-
-abbrev pub named_by : Verdict → List ℕ → Described
-named_by Fine r =
+-- what is found in a descriptor: the plan's numbers that it names, or its first fault
+abbrev pub described_in : List ℕ → Described
+described_in r =
     record {
-      verdict = Fine;
       n = number_at r 181 I6;
       l = number_at r 187 I6;
       w = number_at r 249 I8;
@@ -70,21 +64,19 @@ named_by Fine r =
       s = number_at r 289 I4;
       sort = sort_in r;
     }
-named_by (Fault m place) r = unnamed (Fault m place)
 
-unfoldable pub described_of : List ℕ → Described
-described_of r = named_by (first_fault (image_tests r)) r
+unfoldable pub described_of : List ℕ → Result Described Refusal
+described_of r = named_by (first_fault (image_tests r)) (described_in r)
 
--- the number fields as the code read them: the verdict on them, and where nothing is wrong, what they say
-abbrev pub number_field : List ℕ → Number → Field
+-- the number fields as the code reads them: what they say, or the first fault
+abbrev pub number_field : List ℕ → Number → Result Value Refusal
 number_field r x = needed_of (at r x.byte x.form) (place_of x.byte) (last_of x.byte x.form) x.least x.most
 
 abbrev pub row_number : List ℕ → Number → ℕ
 row_number r x = number_at r x.byte x.form
 
-pub record Read (sort : ℕ) (r : List ℕ) (x : Numbers) : Type 0 where
-  pub verdict : x.verdict ≡ first_fault (numbers_tests r (image_numbers sort))
-  pub values : x.verdict ≡ Fine → x.values ≡ map (row_number r) (image_numbers sort)
+unfoldable pub numbers_of : ℕ → List ℕ → Result (List ℕ) Refusal
+numbers_of sort r = named_by (first_fault (numbers_tests r (image_numbers sort))) (map (row_number r) (image_numbers sort))
 
 -- a line's left fill, data and right fill counts
 abbrev pub fills_of : List ℕ → Fills

@@ -2,20 +2,17 @@
 // numbers that it names, each read once, and the lines. Places are in the record, from 0.
 #![tactic(auto)]
 
-ghost use Rattle.std.specs.Prelude.{◌≡◌, [], ◌∷◌, ◌<◌, ◌≤◌, ◌^◌, length};
-ghost use Rattle.words.specs.Words.{place_of};
-ghost use Rattle.verdicts.specs.Tests.{first_fault, all_hold, needed_of};
-ghost use Rattle.verdicts.specs.Numbers.{at};
-ghost use Rattle.image.specs.Image.{sort_in, number_field, image_row, Read, image_texts, agree_tests, unnamed, described_of, fills_of, line_tests};
+ghost use Rattle.std.specs.Prelude.{◌≡◌, ◌<◌, ◌≤◌, ◌^◌, length};
+ghost use Rattle.verdicts.specs.Tests.{first_fault, all_hold};
+ghost use Rattle.image.specs.Image.{sort_in, number_field, image_row, numbers_of, image_texts, agree_tests, described_of, fills_of, line_tests};
 
-use decimal::Form;
-use fields::Field;
+use decimal::{Form, Number};
 use verdicts::Verdict;
+use words::Refusal;
 
-// What was found in a descriptor: nothing wrong, and the plan's numbers; or its first fault, and zeros.
+// The plan's numbers that a descriptor names.
 #[derive(Clone, Copy)]
 pub struct Described {
-    pub verdict: Verdict,
     pub n: u64,
     pub l: u64,
     pub w: u64,
@@ -32,41 +29,29 @@ pub struct Fills {
     pub right: u64,
 }
 
-// The descriptor's number fields, by position; zeros where one is refused.
-#[derive(Clone, Copy)]
-struct Numbers {
-    verdict: Verdict,
-    values: [u64; 8],
-}
-
 // The sort, by the text at 429: complex, or else counts, whose text it must then be.
 fn sort_of(r: &[u8]) -> u64
     ensures { result ≡ sort_in r.now }
 {
-    let row = plan::sort_at(plan::COMPLEX);
-    let text = row.text;
-    if verdicts::text(r, 429, &text) {
+    if verdicts::text(r, 429, &plan::sort_at(plan::COMPLEX).text) {
         return plan::COMPLEX;
     }
     plan::COUNTS
 }
 
 // The first record's text, and the sort's at 429.
+#[tactic(auto, unfolding(verdicts::specs::Tests::first_fault))]
 fn texts(r: &[u8], sort: u64) -> Verdict
     requires { sort ≡ sort_in r.now }
     ensures { result ≡ first_fault (image_texts r.now) }
 {
-    let ab = verdicts::first_text(r);
-    let Verdict::Fine = ab else {
-        return ab;
-    };
-    let row = plan::sort_at(sort);
-    let text = row.text;
-    verdicts::fixed(r, 429, &text)
+    verdicts::first_text(r)?;
+    verdicts::fixed(r, 429, &plan::sort_at(sort).text)
 }
 
-// Number field i of the descriptor, from 0, by position: its value, or the refusal.
-fn number_at(r: &[u8], sort: u64, i: usize) -> Field
+// Number field i of the descriptor, from 0, by position: its number, or the refusal.
+#[tactic(auto, unfolding(crate::specs::Image::image_row))]
+fn number_at(r: &[u8], sort: u64, i: usize) -> Result<Number, Refusal>
     requires { i < 8 }
     ensures { result ≡ number_field r.now (image_row sort i) }
 {
@@ -84,91 +69,49 @@ fn number_at(r: &[u8], sort: u64, i: usize) -> Field
 }
 
 // The number fields, each read once: the first that is refused is the fault.
-fn read_numbers(r: &[u8], sort: u64) -> Numbers
-    ensures { Read sort r.now result }
+#[tactic(auto, using(crate::proofs::ImageLaws::row_fault), unfolding(crate::specs::Image::numbers_of, verdicts::specs::Numbers::numbers_tests))]
+fn read_numbers(r: &[u8], sort: u64) -> Result<[u64; 8], Refusal>
+    ensures { result ≡ numbers_of sort r.now }
 {
     let mut values = [0u64; 8];
-    let mut i: usize = 0;
-    while i < 8 {
-        let f = number_at(r, sort, i);
-        let Field::Value(v, _) = f else {
-            return Numbers {
-                verdict: verdicts::fault(f),
-                values,
-            };
-        };
-        values[i] = verdicts::whole(v);
-        i += 1;
+    for i in 0..8 {
+        values[i] = verdicts::whole(number_at(r, sort, i)?.units);
     }
-    Numbers {
-        verdict: Verdict::Fine,
-        values,
-    }
+    Ok(values)
 }
 
 // Both line counts equal; d is a group for each pixel; what goes before, the data and the suffix
 // fit L. The numbers have passed their ranges, so no sum wraps.
+#[tactic(auto, using(crate::proofs::ImageLaws::modest), unfolding(crate::specs::Image::agree_tests, verdicts::specs::Tests::first_fault))]
 fn agree(sort: u64, n: u64, l: u64, lines: u64, w: u64, d: u64, s: u64) -> Verdict
     requires { (w ≤ 99999999) × (d ≤ 99999999) × (s ≤ 9999) }
     ensures { result ≡ first_fault (agree_tests sort n l lines w d s) }
 {
-    if n != lines {
-        return Verdict::Fault(8, 0);
-    }
     let row = plan::sort_at(sort);
-    if d != row.group * w {
-        return Verdict::Fault(8, 0);
+    if n != lines || d != row.group * w || l < row.ahead + d + s {
+        return Err(words::at_place(8, 0));
     }
-    if l < row.ahead + d + s {
-        return Verdict::Fault(8, 0);
-    }
-    Verdict::Fine
-}
-
-// A descriptor that names nothing, since something is wrong with it.
-fn unnamed(verdict: Verdict) -> Described
-    ensures { result ≡ unnamed verdict }
-{
-    Described {
-        verdict,
-        n: 0,
-        l: 0,
-        w: 0,
-        d: 0,
-        s: 0,
-        sort: 0,
-    }
+    Ok(())
 }
 
 // The descriptor: fixed texts, number fields and agreements, in this order, and the numbers that it
-// names for the plan.
-pub fn descriptor(r: &[u8]) -> Described
+// names for the plan; or its first fault.
+#[tactic(auto, using(crate::proofs::ImageLaws::steps))]
+pub fn descriptor(r: &[u8]) -> Result<Described, Refusal>
     ensures { result ≡ described_of r.now }
 {
     let sort = sort_of(r);
-    let text = texts(r, sort);
-    let Verdict::Fine = text else {
-        return unnamed(text);
-    };
-    let x = read_numbers(r, sort);
-    let form = x.verdict;
-    let Verdict::Fine = form else {
-        return unnamed(form);
-    };
-    let a = x.values;
-    let agreed = agree(sort, a[0], a[1], a[4], a[5], a[6], a[7]);
-    let Verdict::Fine = agreed else {
-        return unnamed(agreed);
-    };
-    Described {
-        verdict: Verdict::Fine,
-        n: a[0],
-        l: a[1],
-        w: a[5],
-        d: a[6],
-        s: a[7],
+    texts(r, sort)?;
+    let [n, l, _, _, lines, w, d, s] = read_numbers(r, sort)?;
+    agree(sort, n, l, lines, w, d, s)?;
+    Ok(Described {
+        n,
+        l,
+        w,
+        d,
+        s,
         sort,
-    }
+    })
 }
 
 // A line's left fill, data and right fill counts, as its record says them.
@@ -184,34 +127,35 @@ pub fn fills_of(r: &[u8]) -> Fills
 
 // Line k of an image of w pixels: line number, index 1, and fills whose ordinary sum is w. The sum
 // of three four-byte numbers fits 64 bits, so it does not wrap.
+#[tactic(auto, unfolding(crate::specs::Image::line_tests, verdicts::specs::Tests::first_fault))]
 pub fn line(w: u64, k: u64, r: &[u8]) -> Verdict
     ensures { result ≡ first_fault (line_tests w k r.now) }
 {
     let number = words::four(r, words::place(13));
     if number != k {
-        return Verdict::Fault(10, words::place(13) as u64);
+        return Err(words::at_place(10, words::place(13) as u64));
     }
     let index = words::four(r, words::place(17));
     if index != 1 {
-        return Verdict::Fault(10, words::place(17) as u64);
+        return Err(words::at_place(10, words::place(17) as u64));
     }
     let f = fills_of(r);
     if f.left + f.data + f.right != w {
-        return Verdict::Fault(10, words::place(21) as u64);
+        return Err(words::at_place(10, words::place(21) as u64));
     }
-    Verdict::Fine
+    Ok(())
 }
 
 // A line's tests on bytes that have all come: whether `line` would find nothing wrong.
+#[tactic(auto, unfolding(crate::specs::Image::line_tests, verdicts::specs::Tests::all_hold, words::specs::Words::place_of))]
 pub fn line_there(w: u64, k: u64, r: &[u8]) -> bool
     requires { 32 ≤ length r.now }
     ensures { result ≡ all_hold (line_tests w k r.now) }
 {
-    let number = words::is(words::four_there(r, words::place(13)), k);
-    let index = words::is(words::four_there(r, words::place(17)), 1);
+    let number = words::four_there(r, words::place(13));
+    let index = words::four_there(r, words::place(17));
     let left = words::four_there(r, words::place(21));
     let data = words::four_there(r, words::place(25));
     let right = words::four_there(r, words::place(29));
-    let fills = words::is(left + data + right, w);
-    words::both(number, words::both(index, fills))
+    number == k && index == 1 && left + data + right == w
 }

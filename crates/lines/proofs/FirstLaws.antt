@@ -13,26 +13,25 @@ use Rattle.words.specs.Tests.{pick}
 use Rattle.plan.specs.Plan.{image, zero_plan, first_codes, first_length, codes_of, spot_of, total_of, sum_of, run_counts}
 use Rattle.plan.specs.declared.Plan.{Plan}
 use Rattle.headers.specs.Header.{header_of}
-use Rattle.verdicts.specs.declared.Verdict.{Verdict}
-use Rattle.verdicts.specs.declared.Verdict.TheVariants.{Fine, Fault}
+use Rattle.verdicts.specs.Tests.{Verdict, named_by}
+use Rattle.words.specs.declared.Refusal.{Refusal}
 use Rattle.image.specs.Image.{image_record}
 use Rattle.bodies.specs.Bodies.{first_tests, body_tests, body_of}
-use Rattle.bodies.specs.Named.{plan_of, plan_by, first_of as first_of'}
-use Rattle.turns.specs.Turn.{on_fine, short_of, judge_of}
+use Rattle.bodies.specs.Named.{plan_of, first_of as first_of'}
+use Rattle.turns.specs.Turn.{Turn, on_fine, short_of, judge_of}
 use Rattle.turns.specs.declared.Stop.{Stop}
 use Rattle.turns.specs.declared.Stop.TheVariants.{Wait as Wait', Pause, Refused as Refused'}
-use Rattle.turns.specs.declared.Turn.{Turn}
-use Rattle.turns.specs.declared.Turn.TheVariants.{Pass, Halt}
 use Rattle.walk.specs.State.{fresh, good_state}
 use Rattle.walk.specs.Walk.{turn_of, next_of, stopped, more, bad_stop, on_turn, walk_of}
 use Rattle.walk.specs.declared.State.{State}
 use Rattle.walk.specs.declared.Walked.{Walked}
 use Rattle.walk.proofs.GoodLaws.{fresh_good}
 use Rattle.walk.proofs.KeptLaws.{good_kept}
-use Rattle.lines.specs.View.{line_of, behind_first, first_of, view_of, sort_seen, sorted_of, Lined}
-use Rattle.lines.specs.declared.View.{View}
+use Rattle.lines.specs.View.{line_of, behind_first, first_of, view_of, sort_seen, sorted_of, Lined, Leads}
 use Rattle.lines.specs.declared.Sorted.{Sorted}
-use Rattle.lines.specs.declared.View.TheVariants.{Wait, Refused}
+use Rattle.lines.specs.declared.Unshown.{Unshown}
+use Rattle.lines.specs.declared.Unshown.TheVariants.{Wait, Refused}
+use Rattle.std.specs.Prelude.{Result, Ok, Err}
 use Rattle.lines.proofs.LinedLaws.{lined}
 
 -- what is found in the first record's body
@@ -40,15 +39,15 @@ abbrev pub first_body : List ℕ → Verdict
 first_body bs = body_of image 0 zero_plan 0 (take 720 bs)
 
 -- as the code reads it
-body_is : (bs : List ℕ) → first_body bs ≡ (first_of' image (take 720 bs)).verdict
+body_is : (bs : List ℕ) → first_of' image (take 720 bs) ≡ named_by (first_body bs) (plan_of image (take 720 bs))
 unfolding body_of body_tests image_record first_tests first_of'
 body_is bs = refl
 
 -- its turn, open, in the order of the page
 turn_is : (bs : List ℕ) → turn_of (fresh image) bs false
-    ≡ pick (ltb (length bs) 12) (Halt (Wait' (12 - length bs)))
+    ≡ pick (ltb (length bs) 12) (Err (Wait' (12 - length bs)))
     (on_fine (header_of 1 (first_codes image) 720 bs) 1 0
-    (pick (ltb (length bs) 720) (Halt (Wait' (720 - length bs))) (on_fine (first_body bs) 1 0 Pass)))
+    (pick (ltb (length bs) 720) (Err (Wait' (720 - length bs))) (on_fine (first_body bs) 1 0 (Ok tt))))
 unfolding judge_of short_of spot_of first_length codes_of total_of sum_of run_counts
 turn_is bs = refl
 
@@ -65,19 +64,19 @@ module _ (bs : List ℕ) where
   unfolding walk_of spot_of first_length behind
   walk_is t e = rw (fresh_good image (omega arith) (omega arith), e)
 
-  halted : (x : Stop) → turn_of (fresh image) bs false ≡ Halt x → first_of bs ≡ stopped (fresh image) x
-  halted x e = walk_is (Halt x) e
+  halted : (x : Stop) → turn_of (fresh image) bs false ≡ Err x → first_of bs ≡ stopped (fresh image) x
+  halted x e = walk_is (Err x) e
 
   module _ (k : ℕ) where
-    view_halted : (x : Stop) → turn_of (fresh image) bs false ≡ Halt x → sorted_of bs k ≡ record { sort = 0; view = behind_first x (line_of zero_plan k bs) }
+    view_halted : (x : Stop) → turn_of (fresh image) bs false ≡ Err x → sorted_of bs k ≡ record { sort = 0; view = behind_first x (line_of zero_plan k bs) }
     unfolding view_of sort_seen
     view_halted x e = ap (λ (w : Walked). record { sort = w.state.plan.sort; view = behind_first w.stop (line_of w.state.plan k bs) }) (halted x e)
 
   -- a first record that passes: the state behind it is good, and has the plan that it names
-  module _ (e : turn_of (fresh image) bs false ≡ Pass) where
+  module _ (e : turn_of (fresh image) bs false ≡ Ok tt) where
     state_is : (first_of bs).state ≡ behind
     unfolding walk_of
-    state_is = ap (λ (w : Walked). w.state) (walk_is Pass e) ∙ go (good_state behind)
+    state_is = ap (λ (w : Walked). w.state) (walk_is (Ok tt) e) ∙ go (good_state behind)
       where
         go : (b : Bool) → (pick b (stopped behind Pause) (stopped behind bad_stop)).state ≡ behind
         go true = refl
@@ -88,7 +87,7 @@ module _ (bs : List ℕ) where
 
     stop_is : (first_of bs).stop ≡ Pause
     unfolding walk_of
-    stop_is = ap (λ (w : Walked). w.stop) (walk_is Pass e) ∙ rw good
+    stop_is = ap (λ (w : Walked). w.stop) (walk_is (Ok tt) e) ∙ rw good
 
     plan_is : (first_of bs).state.plan ≡ plan_of image (take 720 bs)
     unfolding next_of behind spot_of first_length
@@ -103,42 +102,53 @@ module _ (bs : List ℕ) where
         ap (λ (x : Stop). record { sort = (first_of bs).state.plan.sort; view = behind_first x (line_of (first_of bs).state.plan k bs) }) stop_is
         ∙ ap (λ (p : Plan). under_plan p k bs) plan_is
 
+-- a refusal of the first record, which starts at 0
+abbrev pub first_refused : Refusal → Unshown
+first_refused x = Refused (record { number = x.number; «record» = 1; place = x.place })
+
+-- what was found in a part of it, in those words
+abbrev pub as_first : {A : Type 0} → Result A Refusal → Result A Unshown
+as_first (Ok a) = Ok a
+as_first (Err x) = Err (first_refused x)
+
+pub fine_first : (v : Verdict) → as_first v ≡ Ok tt → v ≡ Ok tt
+fine_first (Ok u) e = refl
+fine_first (Err x) e = cc
+
 -- the view by the first record's tests, one after the other
 module _ (bs : List ℕ) where
-  pub view_short : (k : ℕ) → length bs < 12 → sorted_of bs k ≡ record { sort = 0; view = Wait (12 - length bs) }
-  view_short k h = view_halted bs k (Wait' (12 - length bs)) (turn_is bs ∙ rw (lt-ltb (length bs) 12 h))
+  pub view_short : length bs < 12 → Leads bs (Err (Wait (12 - length bs)))
+  view_short h k = view_halted bs k (Wait' (12 - length bs)) (turn_is bs ∙ rw (lt-ltb (length bs) 12 h))
 
   module _ (twelve : 12 ≤ length bs) where
-    pub view_header : (k n at : ℕ) → header_of 1 (first_codes image) 720 bs ≡ Fault n at
-        → sorted_of bs k ≡ record { sort = 0; view = Refused (record { number = n; «record» = 1; place = at }) }
-    view_header k n at q =
-        view_halted bs k (Refused' (record { number = n; «record» = 1; place = 0 + at })) (turn_is bs ∙ rw (le-ltb (length bs) 12 twelve, q))
-        ∙ ap (λ (m : ℕ). record { sort = 0; view = Refused (record { number = n; «record» = 1; place = m }) }) (zero-add at)
+    -- where a part of the first record's turn finds a fault, every line's view is that refusal of record 1, which starts at 0
+    faulted : (x : Refusal) → turn_of (fresh image) bs false ≡ Err (Refused' (record { number = x.number; «record» = 1; place = 0 + x.place }))
+        → Leads bs (Err (first_refused x))
+    faulted x e k =
+        view_halted bs k _ e
+        ∙ ap (λ (m : ℕ). record { sort = 0; view = Err (Refused (record { number = x.number; «record» = 1; place = m })) }) (zero-add x.place)
 
-    module _ (head : header_of 1 (first_codes image) 720 bs ≡ Fine) where
-      pub view_cut : (k : ℕ) → length bs < 720 → sorted_of bs k ≡ record { sort = 0; view = Wait (720 - length bs) }
-      view_cut k h = view_halted bs k (Wait' (720 - length bs)) (turn_is bs ∙ rw (le-ltb (length bs) 12 twelve, head, lt-ltb (length bs) 720 h))
+    pub view_header : (y : Unshown) → as_first (header_of 1 (first_codes image) 720 bs) ≡ Err y → Leads bs (Err y)
+    view_header y q = go (header_of 1 (first_codes image) 720 bs) refl q
+      where
+        go : (v : Verdict) → header_of 1 (first_codes image) 720 bs ≡ v → as_first v ≡ Err y → Leads bs (Err y)
+        go (Ok u) e q = cc
+        go (Err x) e q =
+            let same : first_refused x ≡ y = cc in
+            subst (λ (z : Unshown). Leads bs (Err z)) same (faulted x (turn_is bs ∙ rw (le-ltb (length bs) 12 twelve, e)))
+
+    module _ (head : header_of 1 (first_codes image) 720 bs ≡ Ok tt) where
+      pub view_cut : length bs < 720 → Leads bs (Err (Wait (720 - length bs)))
+      view_cut h k = view_halted bs k (Wait' (720 - length bs)) (turn_is bs ∙ rw (le-ltb (length bs) 12 twelve, head, lt-ltb (length bs) 720 h))
 
       module _ (whole : 720 ≤ length bs) where
-        body_turn : (v : Verdict) → first_body bs ≡ v → turn_of (fresh image) bs false ≡ on_fine v 1 0 Pass
+        body_turn : (v : Verdict) → first_body bs ≡ v → turn_of (fresh image) bs false ≡ on_fine v 1 0 (Ok tt)
         body_turn v q = turn_is bs ∙ rw (le-ltb (length bs) 12 twelve, head, le-ltb (length bs) 720 whole, q)
 
-        pub view_fault : (k n at : ℕ) → (first_of' image (take 720 bs)).verdict ≡ Fault n at
-            → sorted_of bs k ≡ record { sort = 0; view = Refused (record { number = n; «record» = 1; place = at }) }
-        view_fault k n at q =
-            view_halted bs k (Refused' (record { number = n; «record» = 1; place = 0 + at })) (body_turn (Fault n at) (body_is bs ∙ q))
-            ∙ ap (λ (m : ℕ). record { sort = 0; view = Refused (record { number = n; «record» = 1; place = m }) }) (zero-add at)
-
-        module _ (fine : (first_of' image (take 720 bs)).verdict ≡ Fine) where
-          passes : turn_of (fresh image) bs false ≡ Pass
-          passes = body_turn Fine (body_is bs ∙ fine)
-
-          named : (first_of' image (take 720 bs)).plan ≡ plan_of image (take 720 bs)
-          unfolding first_of'
-          named = ap (λ (v : Verdict). plan_by v (plan_of image (take 720 bs))) fine
-
-          pub fine_lined : Lined (first_of' image (take 720 bs)).plan
-          fine_lined = subst (λ (p : Plan). Lined p) (sym named) (passed_lined bs passes)
-
-          pub fine_view : (k : ℕ) → sorted_of bs k ≡ under_plan (first_of' image (take 720 bs)).plan k bs
-          fine_view k = passed_view bs passes k ∙ ap (λ (p : Plan). under_plan p k bs) (sym named)
+        -- the plan that its numbers make where its body's tests find nothing, else their first fault
+        pub view_body : Leads bs (as_first (first_of' image (take 720 bs)))
+        view_body = subst (λ (y : Result Plan Refusal). Leads bs (as_first y)) (sym (body_is bs)) (go (first_body bs) refl)
+          where
+            go : (v : Verdict) → first_body bs ≡ v → Leads bs (as_first (named_by v (plan_of image (take 720 bs))))
+            go (Ok u) e = let passes = body_turn (Ok tt) e in (passed_lined bs passes, passed_view bs passes)
+            go (Err x) e = faulted x (body_turn (Err x) e)

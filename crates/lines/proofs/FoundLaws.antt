@@ -1,6 +1,6 @@
 -- A line's record as it is due, and what is found in it, test by test: tests that all hold find nothing, and a fine header leaves the body's three tests.
 use Prim.Native.Nat.{ℕ, zero, suc, ◌+◌, ◌-◌, ◌*◌, ◌≤◌}
-use mathlib.Core.Path.{◌≡◌, refl, sym, ap, ◌∙◌, subst}
+use mathlib.Core.Path.{◌≡◌, ap, ◌∙◌}
 use mathlib.Core.List.{List}
 use mathlib.Core.Bool.{true}
 use native.Mathlib.Omega.{arith}
@@ -12,9 +12,8 @@ use Rattle.plan.specs.declared.Plan.{Plan}
 use Rattle.plan.specs.declared.Due.{Due}
 use Rattle.plan.specs.declared.Codes.{Codes}
 use Rattle.plan.proofs.CodeLaws.{line_due_lem}
-use Rattle.verdicts.specs.Tests.{first_fault, all_hold, and_then}
-use Rattle.verdicts.specs.declared.Verdict.{Verdict}
-use Rattle.verdicts.specs.declared.Verdict.TheVariants.{Fine}
+use Rattle.std.specs.Prelude.{Ok}
+use Rattle.verdicts.specs.Tests.{Verdict, first_fault, all_hold, and_then}
 use Rattle.verdicts.proofs.Holding.{all_fine}
 use Rattle.headers.specs.Header.{header_tests, header_of}
 use Rattle.image.specs.Image.{line_tests}
@@ -22,20 +21,20 @@ use Rattle.bodies.specs.Bodies.{body_of}
 use Rattle.lines.specs.View.{found_in, Lined}
 use Rattle.lines.proofs.InsideLaws.{line_body_lem, parts_found}
 
-pub head_fine : (ordinal : ℕ) (c : Codes) (long : ℕ) (b : List ℕ) → all_hold (header_tests ordinal c long b) ≡ true → header_of ordinal c long b ≡ Fine
+pub head_fine : (ordinal : ℕ) (c : Codes) (long : ℕ) (b : List ℕ) → all_hold (header_tests ordinal c long b) ≡ true → header_of ordinal c long b ≡ Ok tt
 unfolding header_of
 head_fine ordinal c long b e = all_fine (header_tests ordinal c long b) e
 
 module _ (p : Plan) (k : ℕ) (s : Due) (r : List ℕ) (run : s.run ≡ 1) where
-  body_is : body_of image s.run p k r ≡ first_fault (line_tests p.w k r)
+  pub body_is : body_of image s.run p k r ≡ first_fault (line_tests p.w k r)
   body_is = ap (λ (i : ℕ). body_of image i p k r) run ∙ line_body_lem p k r
 
-  pub found_fine : both_of (all_hold (header_tests s.ordinal s.codes s.length r)) (all_hold (line_tests p.w k r)) ≡ true → found_in p k s r ≡ Fine
+  pub found_fine : both_of (all_hold (header_tests s.ordinal s.codes s.length r)) (all_hold (line_tests p.w k r)) ≡ true → found_in p k s r ≡ Ok tt
   found_fine e =
       parts_found p k s r (head_fine s.ordinal s.codes s.length r (both_l (all_hold (header_tests s.ordinal s.codes s.length r)) _ e))
       (body_is ∙ all_fine (line_tests p.w k r) (both_r (all_hold (header_tests s.ordinal s.codes s.length r)) _ e))
 
-  pub found_body : header_of s.ordinal s.codes s.length r ≡ Fine → found_in p k s r ≡ first_fault (line_tests p.w k r)
+  pub found_body : header_of s.ordinal s.codes s.length r ≡ Ok tt → found_in p k s r ≡ first_fault (line_tests p.w k r)
   unfolding found_in
   found_body e = ap (λ (v : Verdict). and_then v (body_of image s.run p k r)) e ∙ body_is
 

@@ -1,11 +1,16 @@
 -- The answers of the line view in the words of document 01. Assumes nothing.
-use Rattle.std.specs.Prelude.{[], ◌∷◌, pos}
+use Rattle.std.specs.Prelude.{[], ◌∷◌, pos, Ok, Err}
 use Rattle.words.specs.Answer.{Answer, refused_as, waiting, shown}
-use Rattle.lines.specs.declared.View.{View}
-use Rattle.lines.specs.declared.View.TheVariants.{Shown, Wait, Refused}
+use Rattle.lines.specs.View.{View}
+use Rattle.lines.specs.declared.Unshown.{Unshown}
+use Rattle.lines.specs.declared.Unshown.TheVariants.{Wait, Refused}
 
--- a view: shown with start, data count and left fill; wait with the count of missing bytes; refused with number, record and place
+-- nothing is shown: wait with the count of missing bytes; refused with number, record and place
+abbrev pub unshown_as : Unshown → Answer
+unshown_as (Wait n) = record { word = waiting; numbers = pos n ∷ [] }
+unshown_as (Refused r) = refused_as r
+
+-- a view: shown with start, data count and left fill; else why not
 abbrev pub view_as : View → Answer
-view_as (Shown start count left) = record { word = shown; numbers = pos start ∷ pos count ∷ pos left ∷ [] }
-view_as (Wait n) = record { word = waiting; numbers = pos n ∷ [] }
-view_as (Refused r) = refused_as r
+view_as (Ok x) = record { word = shown; numbers = pos x.start ∷ pos x.count ∷ pos x.left ∷ [] }
+view_as (Err x) = unshown_as x

@@ -3,23 +3,34 @@
 // from the plan.
 #![tactic(auto)]
 
-ghost use Rattle.std.specs.Prelude.{◌≡◌, ◌+◌, ◌*◌, ◌≤◌, length};
+ghost use Rattle.std.specs.Prelude.{◌≡◌, ◌+◌, ◌*◌, ◌≤◌, length, Ok};
 ghost use Rattle.plan.specs.Plan.{image, first_codes, due_of, Placed};
 ghost use Rattle.headers.specs.Header.{header_of};
-ghost use Rattle.lines.specs.View.{pixels_from, shown_of, found_in, line_at, line_of, sorted_of, view_of, pixels_of, Lined};
+ghost use Rattle.lines.specs.declared.Unshown.TheVariants.{Refused};
+ghost use Rattle.lines.specs.View.{pixels_from, shown_of, found_in, line_at, line_of, sorted_of, view_of, pixels_of, Lined, Leads};
 
 use plan::{Due, Plan};
 use verdicts::Verdict;
 use words::Refusal;
 
-// What a line view answers: the place of its first data pixel in the file, the data count and the
-// left fill; or the bytes still missing; or why it is refused.
+// What a line view shows: the place of its first data pixel in the file, the data count and the left
+// fill.
 #[derive(Clone, Copy)]
-pub enum View {
-    Shown(u64, u64, u64),
+pub struct Shown {
+    pub start: u64,
+    pub count: u64,
+    pub left: u64,
+}
+
+// Why nothing is shown: the bytes still missing; or the refusal.
+#[derive(Clone, Copy)]
+pub enum Unshown {
     Wait(u64),
     Refused(Refusal),
 }
+
+// What a line view answers.
+pub type View = Result<Shown, Unshown>;
 
 // A view, and the sort of the samples that it shows; 0 where the first record has not passed.
 #[derive(Clone, Copy)]
@@ -34,18 +45,10 @@ fn found(p: Plan, k: u64, d: Due, r: &[u8]) -> Verdict
     requires { (d.run ≡ 1) × (32 ≤ length r.now) }
     ensures { result ≡ found_in p k d r.now }
 {
-    let codes = d.codes;
-    let fine = words::both(
-        headers::header_there(d.ordinal, codes, d.length, r),
-        image::line_there(p.w, k, r),
-    );
-    if fine {
-        return Verdict::Fine;
+    if headers::header_there(d.ordinal, d.codes, d.length, r) && image::line_there(p.w, k, r) {
+        return Ok(());
     }
-    let h = headers::header(d.ordinal, codes, d.length, r);
-    let Verdict::Fine = h else {
-        return h;
-    };
+    headers::header(d.ordinal, d.codes, d.length, r)?;
     image::line(p.w, k, r)
 }
 
@@ -58,16 +61,19 @@ fn pixels_from(p: Plan) -> u64
 }
 
 // What is shown of a line's record that starts there: the data pixels skip the left fill.
-fn shown(p: Plan, start: u64, r: &[u8]) -> View
+fn shown_at(p: Plan, start: u64, r: &[u8]) -> Shown
     requires start_bound { (start ≤ 20000000000000) × (p.s + p.d ≤ p.l) × (p.l ≤ 99999999) }
     requires in_bounds { 32 ≤ length r.now }
-    ensures { result ≡ shown_of p start r.now }
+    ensures { Ok result ≡ shown_of p start r.now }
 {
     let left = words::four_there(r, words::place(21));
-    let data = words::four_there(r, words::place(25));
+    let count = words::four_there(r, words::place(25));
     let group = plan::sort_at(p.sort).group;
-    let from = start + pixels_from(p) + group * left;
-    View::Shown(from, data, left)
+    Shown {
+        start: start + pixels_from(p) + group * left,
+        count,
+        left,
+    }
 }
 
 // Line k, whose record is due there: wait for the bytes still missing to its record's end, then judge
@@ -80,20 +86,17 @@ fn line_at(p: Plan, k: u64, d: Due, bytes: &[u8]) -> View
     let end = d.start + d.length;
     let len = bytes.len() as u64;
     if len < end {
-        return View::Wait(end - len);
+        return Err(Unshown::Wait(end - len));
     }
-    let from = d.start as usize;
-    let to = end as usize;
-    let r = &bytes[from..to];
-    let v = found(p, k, d, r);
-    if let Verdict::Fault(number, at) = v {
-        return View::Refused(Refusal {
-            number,
+    let r = &bytes[d.start as usize..end as usize];
+    if let Err(x) = found(p, k, d, r) {
+        return Err(Unshown::Refused(Refusal {
+            number: x.number,
             record: d.ordinal,
-            place: d.start + at,
-        });
+            place: d.start + x.place,
+        }));
     }
-    shown(p, d.start, r)
+    Ok(shown_at(p, d.start, r))
 }
 
 // Line k's record as it is due: all lines are of one run, so it is not looked for among the runs.
@@ -102,14 +105,12 @@ fn line_due(p: Plan, k: u64) -> Due
     ensures value { result ≡ due_of image p k }
     ensures placed { Placed result × (result.run ≡ 1) × (32 ≤ result.length) }
 {
-    let codes = plan::line_codes(p.sort);
-    let before = (k - 1) * p.l;
     Due {
         ordinal: k + 1,
         run: 1,
-        codes,
+        codes: plan::line_codes(p.sort),
         length: p.l,
-        start: plan::first_length(plan::IMAGE) + before,
+        start: plan::first_length(plan::IMAGE) + (k - 1) * p.l,
     }
 }
 
@@ -121,7 +122,7 @@ fn line(p: Plan, k: u64, bytes: &[u8]) -> View
     if words::within(1, k, p.n) {
         return line_at(p, k, line_due(p, k), bytes);
     }
-    View::Refused(words::bare(13))
+    Err(Unshown::Refused(words::bare(13)))
 }
 
 // The header of the first record, on bytes that have come.
@@ -131,62 +132,48 @@ fn first_header(b: &[u8]) -> Verdict
 {
     let codes = plan::first_codes(plan::IMAGE);
     if headers::header_there(1, codes, 720, b) {
-        return Verdict::Fine;
+        return Ok(());
     }
     headers::header(1, codes, 720, b)
 }
 
-// The bytes of the first record that are still missing: no sort is known.
-fn missing(n: u64) -> Sorted
-    ensures { result ≡ record { sort = 0; view = View.Wait n } }
-{
-    Sorted {
-        sort: 0,
-        view: View::Wait(n),
-    }
-}
-
 // A refusal of the first record, which starts at 0.
-fn refused(number: u64, place: u64) -> Sorted
-    ensures { result ≡ record { sort = 0; view = View.Refused (record { number = number; «record» = 1; place = place }) } }
+fn refused(x: Refusal) -> Unshown
+    ensures { result ≡ Refused (record { number = x.number; «record» = 1; place = x.place }) }
 {
-    let r = Refusal {
-        number,
-        record: 1,
-        place,
-    };
-    Sorted {
-        sort: 0,
-        view: View::Refused(r),
-    }
+    Unshown::Refused(Refusal { record: 1, ..x })
 }
 
-// The line view with the sort, asked of an image prefix held from byte 0: the first record as in the
-// walk, open; then line k. Asking for the last line costs no more than asking for the first. The walk
-// itself is not called: its state would be moved about for one record (docs/SPEED.md).
-pub fn sorted_view(bytes: &[u8], k: u64) -> Sorted
-    ensures { result ≡ sorted_of bytes.now k }
+// The plan that the first record names, the record read as in the walk, open; or its own wait or refusal. The
+// walk itself is not called: its state would be moved about for one record (docs/SPEED.md).
+fn first_plan(bytes: &[u8]) -> Result<Plan, Unshown>
+    ensures { Leads bytes.now result }
 {
     let len = bytes.len() as u64;
     if len < 12 {
-        return missing(12 - len);
+        return Err(Unshown::Wait(12 - len));
     }
-    let h = first_header(bytes);
-    if let Verdict::Fault(n, at) = h {
-        return refused(n, at);
-    }
+    first_header(bytes).map_err(refused)?;
     if len < 720 {
-        return missing(720 - len);
+        return Err(Unshown::Wait(720 - len));
     }
-    let x = bodies::of_image(&bytes[..720]);
-    let verdict = x.verdict;
-    if let Verdict::Fault(n, at) = verdict {
-        return refused(n, at);
-    }
-    let p = x.plan;
-    Sorted {
-        sort: p.sort,
-        view: line(p, k, bytes),
+    bodies::of_image(&bytes[..720]).map_err(refused)
+}
+
+// The line view with the sort, asked of an image prefix held from byte 0: the first record; then line k.
+// Asking for the last line costs no more than asking for the first.
+pub fn sorted_view(bytes: &[u8], k: u64) -> Sorted
+    ensures { result ≡ sorted_of bytes.now k }
+{
+    match first_plan(bytes) {
+        Ok(p) => Sorted {
+            sort: p.sort,
+            view: line(p, k, bytes),
+        },
+        Err(x) => Sorted {
+            sort: 0,
+            view: Err(x),
+        },
     }
 }
 
@@ -204,11 +191,10 @@ pub fn pixels(bytes: &[u8], k: u64) -> &[u8]
 {
     let x = sorted_view(bytes, k);
     let group = plan::sort_at(x.sort).group;
-    let v = x.view;
-    let View::Shown(start, count, _) = v else {
+    let Ok(shown) = x.view else {
         return &bytes[0..0];
     };
-    let from = start as usize;
-    let to = (start + group * count) as usize;
+    let from = shown.start as usize;
+    let to = (shown.start + group * shown.count) as usize;
     &bytes[from..to]
 }

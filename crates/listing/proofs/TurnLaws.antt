@@ -4,49 +4,21 @@ use mathlib.Core.Path.{◌≡◌, refl, sym, ap, ◌∙◌}
 use mathlib.Core.List.{List, []}
 use native.Mathlib.Omega.{arith}
 use mathlib.Core.Bool.{Bool, true, false}
-use lib.Dec.{ltb}
-use borrow.Author.Tests.{eq-eqb, ne_eqb}
+use Rattle.std.specs.Prelude.{Ok}
 use Rattle.words.specs.Tests.{pick}
-use Rattle.words.specs.Words.{four_at, place_of}
 use Rattle.walk.specs.State.{fresh}
 use Rattle.walk.specs.Walk.{walk_of, begin_of}
 use Rattle.plan.specs.Plan.{image}
-use Rattle.walk.specs.declared.Begun.{Begun}
 use Rattle.walk.proofs.BegunLaws.{begun_walks}
 use Rattle.walk.proofs.GoodLaws.{fresh_good}
 use Rattle.walk.proofs.LoopLaws.{walk_pause}
 use Rattle.walk.specs.declared.State.{State}
 use Rattle.turns.specs.declared.Stop.{Stop}
 use Rattle.walk.specs.declared.Walked.{Walked}
-use Rattle.listing.specs.Rows.{longest, passed_row, wanted, say_of, too_long, told_by, told_of}
-use Rattle.rows.specs.declared.Row.TheVariants.{Image, Line, TooLong}
+use Rattle.listing.specs.Rows.{say_of, too_long, told_by, told_of}
+use Rattle.rows.specs.declared.Row.TheVariants.{TooLong}
 use Rattle.listing.specs.declared.Say.{Say}
 use Rattle.listing.specs.declared.Say.TheVariants.{Last}
-
-pub row_first : (st after : State) (r : List ℕ) → st.passed ≡ 0 → passed_row st r after ≡ Image after.plan.n after.plan.w
-unfolding passed_row
-row_first st after r e = simp (eq-eqb st.passed 0 e)
-
-pub row_line : (st after : State) (r : List ℕ) → (st.passed ≡ 0 → ⊥)
-    → passed_row st r after ≡ Line st.passed (four_at r (place_of 21)) (four_at r (place_of 25)) (four_at r (place_of 29))
-unfolding passed_row
-row_line st after r n = simp (ne_eqb st.passed 0 n)
-
-pub want_one : (n : ℕ) → n ≡ 0 → 1 ≡ wanted n
-unfolding wanted
-want_one n e = sym (simp (eq-eqb n 0 e))
-
-pub want_more : (n : ℕ) → (n ≡ 0 → ⊥) → n ≡ wanted n
-unfolding wanted
-want_more n h = sym (simp (ne_eqb n 0 h))
-
-pub long_first : (st : State) → st.passed ≡ 0 → false ≡ too_long st
-unfolding too_long
-long_first st e = sym (simp (eq-eqb st.passed 0 e))
-
-pub long_later : (st : State) → (st.passed ≡ 0 → ⊥) → ltb longest st.plan.l ≡ too_long st
-unfolding too_long
-long_later st n = sym (simp (ne_eqb st.passed 0 n))
 
 module _ (st : State) (held : List ℕ) (closed : Bool) where
   pub told_long : too_long st ≡ true → record { state = st; say = Last TooLong } ≡ told_of st held closed
@@ -64,6 +36,6 @@ module _ (st : State) (held : List ℕ) (closed : Bool) where
         ap (λ (s : Say). record { state = w.state; say = s }) (q ∙ ap (say_of st held w.state) (sym e)) ∙ sym told_is
 
 -- a budget of 0 passes nothing
-pub begun_fresh : (b : Begun) (w : Walked) → b ≡ begin_of image → w ≡ walk_of 0 b.state [] false → w.state ≡ fresh image
-begun_fresh b w e q =
-    ap (λ (x : Walked). x.state) (begun_walks image 0 [] false refl b w e q ∙ walk_pause (fresh image) [] false (fresh_good image (omega arith) (omega arith)))
+pub begun_walked : (st : State) (w : Walked) → Ok st ≡ begin_of image → w ≡ walk_of 0 st [] false → w.state ≡ fresh image
+begun_walked st w e q =
+    ap (λ (x : Walked). x.state) (begun_walks image 0 [] false refl st w e q ∙ walk_pause (fresh image) [] false (fresh_good image (omega arith) (omega arith)))

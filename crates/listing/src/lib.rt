@@ -34,43 +34,38 @@ pub struct Told {
 pub fn begin() -> State
     ensures { result ≡ fresh image }
 {
-    let begun = State::none().begin(plan::IMAGE);
-    let st = begun.state;
-    let asked = st.walk(b"", false, 0);
-    asked.state
+    match State::none().begin(plan::IMAGE) {
+        Ok(st) => st.walk(b"", false, 0).state,
+        Err(_) => State::none(),
+    }
 }
 
 // The row of a record that has passed: the first, or a line.
+#[tactic(auto, unfolding(crate::specs::Rows::passed_row))]
 fn passed_row(st: State, r: &[u8], after: State) -> Row
     ensures { result ≡ passed_row st r.now after }
 {
     if st.passed == 0 {
-        let p = after.plan;
-        return Row::Image(p.n, p.w);
+        return Row::Image(after.plan.n, after.plan.w);
     }
     let f = image::fills_of(r);
     Row::Line(st.passed, f.left, f.data, f.right)
 }
 
 // Behind the last record one byte is asked for, to see whether more come.
+#[tactic(auto, unfolding(crate::specs::Rows::wanted))]
 fn want(n: u64) -> u64
     ensures { result ≡ wanted n }
 {
-    if n == 0 {
-        return 1;
-    }
-    n
+    n.max(1)
 }
 
 // Behind the first record: no line of this image can be held.
+#[tactic(auto, unfolding(crate::specs::Rows::too_long))]
 fn too_long(st: State) -> bool
     ensures { result ≡ too_long st }
 {
-    if st.passed == 0 {
-        return false;
-    }
-    let p = st.plan;
-    LONGEST < p.l
+    st.passed != 0 && LONGEST < st.plan.l
 }
 
 // One turn, on the bytes held of the next record; closed once the input has ended.
@@ -83,10 +78,9 @@ pub fn turn(st: State, held: &[u8], closed: bool) -> Told
             say: Say::Last(Row::TooLong),
         };
     }
-    let w = st.step(held, closed);
-    let after = w.state;
-    let stop = w.stop;
-    match stop {
+    let walked = st.step(held, closed);
+    let after = walked.state;
+    match walked.stop {
         Stop::Wait(n) => Told {
             state: after,
             say: Say::Want(want(n)),

@@ -1,30 +1,30 @@
 -- What the definitions of codes and lengths say in each of their cases, by computing their tests.
-use Prim.Native.Nat.{ℕ, zero, suc, ◌+◌, ◌-◌, ◌*◌, ◌≤◌, ◌<◌}
-use mathlib.Core.Path.{◌≡◌, refl, ap}
-use mathlib.Core.List.{[], ◌∷◌}
+use Prim.Native.Nat.{ℕ, zero, suc, ◌+◌, ◌*◌, ◌≤◌, ◌<◌, min}
+use mathlib.Core.Path.{◌≡◌, refl, sym, ap, ◌∙◌}
+use mathlib.Core.Logic.{⊎_elim}
 use native.Mathlib.Omega.{arith}
-use lib.ListN.{length, get_or-replicate, get_or-eq_default}
-use borrow.Author.Tests.{eq-eqb, ne_eqb, lt-ltb}
-use Rattle.plan.specs.Tables.{rows, slot, slots, facility, slot_of, codes, others, other_codes, sort, sorts, sort_of, last_sort}
+use lib.ListN.{length, get_or-eq_default}
+use borrow.Author.Tests.{eq-eqb, ne_eqb, eqb-true, eqb-false, lt-ltb}
+use Rattle.plan.specs.Tables.{codes, others, other_codes, sort_of, last_sort}
 use mathlib.Core.Bool.{Bool, true, false}
 use lib.Dec.{eqb}
 use Rattle.words.specs.Tests.{pick}
-use Rattle.plan.specs.Plan.{volume, leader, image, first_codes, line_codes, codes_of, first_length, run_counts, run_lengths, sum_of, total_of, spot_from}
+use Rattle.words.proofs.Laws.{cases}
+use Rattle.plan.specs.Plan.{volume, leader, image, line_codes, codes_of, first_length, run_counts, run_lengths, sum_of, total_of, spot_from}
 use Rattle.plan.specs.Plan.{spot_of, due_of}
 use Rattle.plan.specs.declared.Plan.{Plan}
 use Rattle.plan.specs.declared.Spot.{Spot}
-
-pub slot_none : (i : ℕ) → rows ≤ i → slot_of i ≡ slot 0 0 0 0 0
-unfolding slot_of
-slot_none i h = get_or-eq_default slots (slot 0 0 0 0 0) h
 
 pub other_none : (i : ℕ) → 6 ≤ i → other_codes i ≡ codes 0 0 0 0
 unfolding other_codes
 other_none i h = get_or-eq_default others (codes 0 0 0 0) h
 
-pub sort_none : (i : ℕ) → 2 ≤ i → sort_of i ≡ sort (0 ∷ 0 ∷ 0 ∷ 0 ∷ []) 0 0 0
-unfolding sort_of
-sort_none i h = get_or-eq_default sorts (sort (0 ∷ 0 ∷ 0 ∷ 0 ∷ []) 0 0 0) h
+-- whatever stands behind the six is none
+pub other_min : (run i : ℕ) → i ≡ min run 3 → other_codes (3 + i) ≡ other_codes (3 + run)
+other_min run i e =
+    ⊎_elim (λ z. ap other_codes (let h = eqb-true i run z in omega (arith, h)))
+    (λ z. let n = eqb-false i run z in other_none (3 + i) (omega arith) ∙ sym (other_none (3 + run) (omega arith)))
+    (cases (eqb i run))
 
 -- no sort has more than eight bytes a group, nor asks for more than 412 ahead of the pixels
 pub sort_modest : (i : ℕ) → ((sort_of i).group ≤ 8) × ((sort_of i).ahead ≤ 412)
@@ -54,39 +54,12 @@ sort_text zero = refl
 sort_text (suc zero) = refl
 sort_text (suc (suc i)) = refl
 
--- the facility pairs stand behind the six slots
-pub slot_facility : (i : ℕ) → 6 ≤ i → i < rows → slot_of i ≡ facility
-unfolding slot_of
-slot_facility zero a b = absurd (omega arith)
-slot_facility (suc zero) a b = absurd (omega arith)
-slot_facility (suc (suc zero)) a b = absurd (omega arith)
-slot_facility (suc (suc (suc zero))) a b = absurd (omega arith)
-slot_facility (suc (suc (suc (suc zero)))) a b = absurd (omega arith)
-slot_facility (suc (suc (suc (suc (suc zero))))) a b = absurd (omega arith)
-slot_facility (suc (suc (suc (suc (suc (suc i)))))) a b = get_or-replicate 11 i facility (slot 0 0 0 0 0) (omega arith)
-
 module _ (kind : ℕ) (p : Plan) where
-  pub codes_first : (run : ℕ) → run ≡ 0 → codes_of kind p run ≡ first_codes kind
-  unfolding codes_of
-  codes_first zero e = refl
-  codes_first (suc i) e = absurd (omega arith)
-
-  pub codes_slot : (run : ℕ) → (run ≡ 0 → ⊥) → kind ≡ leader
-      → codes_of kind p run ≡ record { one = 18; two = (slot_of (run - 1)).code; three = 18; four = 20; free = (slot_of (run - 1)).free }
-  unfolding codes_of
-  codes_slot zero n e = absurd (n refl)
-  codes_slot (suc i) n e = let d : suc i - 1 ≡ i = omega arith in rw (eq-eqb kind leader e, d)
-
   pub codes_volume : (run : ℕ) → (run ≡ 0 → ⊥) → kind ≡ volume → codes_of kind p run ≡ other_codes (3 + run)
   unfolding codes_of
   codes_volume zero n e = absurd (n refl)
   codes_volume (suc i) n e =
       let d : 3 + suc i ≡ 4 + i = omega arith in rw (ne_eqb kind leader (omega arith), eq-eqb kind volume e, d)
-
-  pub codes_line : (run : ℕ) → (run ≡ 0 → ⊥) → (kind ≡ leader → ⊥) → (kind ≡ volume → ⊥) → codes_of kind p run ≡ line_codes p.sort
-  unfolding codes_of
-  codes_line zero n e f = absurd (n refl)
-  codes_line (suc i) n e f = rw (ne_eqb kind leader e, ne_eqb kind volume f)
 
 module _ (kind : ℕ) where
   first_cases : (b : Bool) → pick b 360 720 ≤ 720
@@ -102,11 +75,6 @@ module _ (kind : ℕ) where
     unfolding spot_of
     spot_first zero e = refl
     spot_first (suc k) e = absurd (omega arith)
-
-    pub spot_later : (k : ℕ) → (k ≡ 0 → ⊥) → spot_of kind p k ≡ spot_from 1 (run_counts kind p) (run_lengths kind p) (k - 1) (first_length kind)
-    unfolding spot_of
-    spot_later zero n = absurd (n refl)
-    spot_later (suc k) n = let d : suc k - 1 ≡ k = omega arith in rw d
 
 -- line k's record: the run of lines, L bytes, behind the first record and the lines before it
 pub line_spot : (p : Plan) (k : ℕ) → k < p.n → spot_of image p (suc k) ≡ record { run = 1; length = p.l; start = 720 + k * p.l }

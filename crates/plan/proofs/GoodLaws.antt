@@ -1,16 +1,16 @@
 -- The plans that the rules allow, one step at a time: numbers that are all 0, slots one after the other, and the image's tests in any order.
-use Prim.Native.Nat.{ℕ, suc, ◌+◌, ◌-◌, ◌*◌, ◌≤◌, ◌<◌}
-use mathlib.Core.Path.{◌≡◌, ap, ◌∙◌}
-use mathlib.Core.List.{List}
-use mathlib.Core.Bool.{Bool, true, false}
-use native.Mathlib.Numerals.{add-one}
+use Prim.Native.Nat.{ℕ, zero, suc, ◌+◌, ◌-◌, ◌*◌, ◌≤◌, ◌<◌}
+use mathlib.Core.Path.{◌≡◌, refl, sym, ap, ◌∙◌}
+use mathlib.Core.List.{List, [], ◌∷◌}
+use mathlib.Core.Bool.{Bool, true, false, false≢true}
+use mathlib.Core.Logic.{⊎_elim}
 use native.Mathlib.Omega.{arith}
 use lib.Dec.{eqb, leb}
-use lib.ListN.{length, get_or, drop, drop_of_length-le}
-use lib.Seq.{drop-cons}
+use lib.ListN.{length, get_or}
 use borrow.Author.Tests.{eq-eqb, ne_eqb, eqb-true, leb-true}
 use Rattle.words.specs.Tests.{both_of, within_of}
-use Rattle.words.proofs.Laws.{both_false, both_l, both_r, within_true}
+use Rattle.std.specs.Prelude.{IsTrue, ◌↔◌, All}
+use Rattle.words.proofs.Laws.{both_l, both_r, both_make, cases, within_true}
 use Rattle.plan.specs.Tables.{rows, slot_of, last_sort}
 use Rattle.plan.specs.Plan.{volume, leader, image, trailer, group_of, ahead_of}
 use Rattle.plan.specs.Plan.{all_zero, slots_zero?, slot_good, slots_good, volume_good, leader_good, image_good}
@@ -18,13 +18,21 @@ use Rattle.plan.specs.Plan.{image_ranges, image_agrees, zero_plan?, plan_good}
 use Rattle.plan.specs.declared.Plan.{Plan}
 use Rattle.plan.proofs.CodeLaws.{sort_ahead}
 
-pub zero_at : (a : List ℕ) (i : ℕ) → i < length a → all_zero (drop i a) ≡ both_of (eqb (get_or a i 0) 0) (all_zero (drop (i + 1) a))
+-- numbers that are all 0, one by one
+zero_each : (l : List ℕ) → all_zero l ≡ true → All (λ x. x ≡ 0) l
 unfolding all_zero
-zero_at a i h = rw (add-one, drop-cons a i 0)
+zero_each [] e k d h = absurd (omega arith)
+zero_each (x ∷ xs) e zero d h = eqb-true x 0 (both_l (eqb x 0) (all_zero xs) e)
+zero_each (x ∷ xs) e (suc k) d h = zero_each xs (both_r (eqb x 0) (all_zero xs) e) k d (omega arith)
 
-pub zero_end : (a : List ℕ) (i : ℕ) → length a ≤ i → all_zero (drop i a) ≡ true
+zero_make : (l : List ℕ) → All (λ x. x ≡ 0) l → all_zero l ≡ true
 unfolding all_zero
-zero_end a i h = ap all_zero (drop_of_length-le a h)
+zero_make [] a = refl
+zero_make (x ∷ xs) a = both_make (eqb x 0) (all_zero xs) (eq-eqb x 0 (a 0 0 (omega arith))) (zero_make xs (λ k d h. a (suc k) d (omega arith)))
+
+pub zero_is : (b : Bool) (l : List ℕ) → IsTrue b ↔ All (λ x. x ≡ 0) l → b ≡ all_zero l
+zero_is true l e = sym (zero_make l (e.0 refl))
+zero_is false l e = ⊎_elim (λ h. absurd (false≢true (e.1 (zero_each l h)))) (λ h. sym h) (cases (all_zero l))
 
 -- the slots from i on
 module _ (i : ℕ) (cs ls : List ℕ) (h : i < rows) where
@@ -43,24 +51,9 @@ unfolding slots_good
 slots_end i cs ls h = ap (λ (m : ℕ). slots_good i m cs ls) (let e : rows - i ≡ 0 = omega arith in e)
 
 -- a slot's length is judged by its count
-module _ (i count length : ℕ) where
-  pub slot_empty : count ≡ 0 → slot_good i count length ≡ both_of (within_of (slot_of i).least count (slot_of i).most) (eqb length 0)
-  slot_empty e = simp (eq-eqb count 0 e)
-
-  pub slot_full : (count ≡ 0 → ⊥)
-      → slot_good i count length ≡ both_of (within_of (slot_of i).least count (slot_of i).most) (within_of (slot_of i).shortest length (slot_of i).longest)
-  slot_full n = simp (ne_eqb count 0 n)
-
-module _ (p : Plan) where
-  pub image_ranged : image_ranges p ≡ true → image_good p ≡ both_of (both_of (eqb p.pointers 0) (slots_zero? p)) (image_agrees p)
-  unfolding image_good
-  image_ranged e = ap (λ (t : Bool). both_of (both_of (eqb p.pointers 0) (slots_zero? p)) (both_of t (image_agrees p))) e
-
-  pub image_unranged : image_ranges p ≡ false → image_good p ≡ false
-  unfolding image_good
-  image_unranged e =
-      ap (λ (t : Bool). both_of (both_of (eqb p.pointers 0) (slots_zero? p)) (both_of t (image_agrees p))) e
-      ∙ both_false (both_of (eqb p.pointers 0) (slots_zero? p))
+pub slot_full : (i count length : ℕ) → (count ≡ 0 → ⊥)
+    → slot_good i count length ≡ both_of (within_of (slot_of i).least count (slot_of i).most) (within_of (slot_of i).shortest length (slot_of i).longest)
+slot_full i count length n = simp (ne_eqb count 0 n)
 
 -- the kinds
 module _ (kind : ℕ) (p : Plan) where

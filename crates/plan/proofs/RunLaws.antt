@@ -1,7 +1,7 @@
--- The runs of equal records: one step of the sum and of the search for record k, over any lists of counts and lengths.
+-- The runs of equal records: their sum, and one step of the search for record k, over any lists of counts and lengths.
 use Prim.Native.Nat.{ℕ, ◌+◌, ◌-◌, ◌*◌, ◌<◌, ◌≤◌}
-use mathlib.Core.List.{List, ◌∷◌}
-use mathlib.Core.Path.{◌≡◌, ◌∙◌}
+use mathlib.Core.List.{List, [], ◌∷◌}
+use mathlib.Core.Path.{◌≡◌, refl, sym, ap, ◌∙◌}
 use native.Mathlib.Numerals.{add-one}
 use native.Mathlib.Omega.{arith}
 use native.Mathlib.Nat.{mul-le-mul, le_refl}
@@ -9,9 +9,12 @@ use lib.ListN.{length, get_or, drop, drop_of_length-le}
 use lib.Seq.{drop-cons}
 use lib.Dec.{ltb}
 use borrow.Author.Tests.{lt-ltb, le-ltb}
+use Rattle.std.specs.Prelude.{sum}
+use Rattle.std.proofs.lemmas.List.Sums.{sum_by-cons}
 use Rattle.words.specs.Tests.{pick}
 use Rattle.plan.specs.Tables.{rows}
-use Rattle.plan.specs.Plan.{spot_from, sum_of, Small}
+use Rattle.plan.specs.Plan.{spot_from, sum_of, total_of, run_counts, Small}
+use Rattle.plan.specs.declared.Plan.{Plan}
 
 -- one more element, at the code's i + 1
 pub drop_more : (l : List ℕ) (i : ℕ) → i < length l → drop i l ≡ get_or l i 0 ∷ drop (i + 1) l
@@ -43,10 +46,12 @@ run_small x i cs ls s k h =
     let m : x * get_or ls i 0 ≤ get_or cs i 0 * get_or ls i 0 = mul-le-mul h (le_refl (get_or ls i 0)) in
     omega (arith, s.area i k)
 
-pub sum_at : (l : List ℕ) (i s : ℕ) → i < length l → s + sum_of (drop i l) ≡ s + get_or l i 0 + sum_of (drop (i + 1) l)
+-- the definition's sum is the library's
+pub sum_is : (l : List ℕ) → sum_of l ≡ sum l
 unfolding sum_of
-sum_at l i s h = rw (drop_more l i h) (omega arith)
+sum_is [] = refl
+sum_is (x ∷ xs) = ap (λ (n : ℕ). x + n) (sum_is xs) ∙ sym (sum_by-cons (λ (n : ℕ). n) x xs)
 
-pub sum_end : (l : List ℕ) (i : ℕ) → length l ≤ i → sum_of (drop i l) ≡ 0
-unfolding sum_of
-sum_end l i h = rw (drop_of_length-le l h)
+pub total_is : (kind : ℕ) (p : Plan) (cs : List ℕ) → cs ≡ run_counts kind p → 1 + sum cs ≡ total_of kind p
+unfolding total_of
+total_is kind p cs e = ap (λ (n : ℕ). 1 + n) (sym (sum_is cs) ∙ ap sum_of e)

@@ -3,11 +3,13 @@
 // nothing of bytes (document 01, "First records and what they promise"; 000).
 #![tactic(auto)]
 
-ghost use Rattle.std.specs.Prelude.{◌≡◌, ℕ, ◌+◌, ◌<◌, ◌≤◌, get_or};
-ghost use Rattle.plan.specs.Tables.{rows, slot, facility, slot_of, codes, other_codes, sort, sort_of};
+ghost use Rattle.std.specs.Prelude.{◌≡◌, ◌^◌, ◌<◌, ◌≤◌, sum};
+ghost use Rattle.plan.specs.Tables.{slot, facility, slot_of, codes, other_codes, sort, sort_of};
 ghost use Rattle.plan.specs.Plan.{zero_plan, run_counts, run_lengths, first_length, Small, Spotted, Placed};
-ghost use Rattle.plan.specs.Plan.{sum_of, total_of, spot_from, spot_of, first_codes, line_codes, codes_of, due_of, records_most};
+ghost use Rattle.plan.specs.Plan.{total_of, spot_from, spot_of, first_codes, line_codes, codes_of, due_of};
 
+// The four kinds.
+// kept: a state may be handed in with any numbers, and `walk_of` and `sbg_walk`'s contract speak of each kind, known or not.
 pub const VOLUME: u64 = 1;
 
 pub const LEADER: u64 = 2;
@@ -18,6 +20,7 @@ pub const TRAILER: u64 = 4;
 
 // The image's sorts by number: whole counts of two bytes, and complex samples of two floats (document 02,
 // No. 2).
+// kept: a state may be handed in with any sort; `plan_good` and `sbg_walk`'s contract speak of those that there are not.
 pub const COUNTS: u64 = 0;
 
 pub const COMPLEX: u64 = 1;
@@ -114,6 +117,7 @@ fn sort_row(text: [u8; 4], group: u64, ahead: u64, code: u64) -> Sort
 }
 
 // The image's sorts by number, a row each; behind the last one nothing is allowed.
+#[tactic(auto, unfolding(crate::specs::Tables::sort_of))]
 pub fn sort_at(sort: u64) -> Sort
     ensures { result ≡ sort_of sort }
 {
@@ -154,6 +158,7 @@ fn facility() -> Slot
 
 // The rules of row i of the plan, from 0: slots 1, 2, 3, 4, 5, 7, then the eleven facility pairs; past
 // the last row nothing is allowed. It is no array, since one of structs is built anew at each look.
+#[tactic(auto, unfolding(crate::specs::Tables::slot_of))]
 pub fn slot_at(i: u64) -> Slot
     ensures { result ≡ slot_of i }
 {
@@ -183,6 +188,7 @@ fn four_codes(one: u64, two: u64, three: u64, four: u64) -> Codes
 }
 
 // The descriptors of the four kinds, then a directory's pointers and its text.
+#[tactic(auto, unfolding(crate::specs::Tables::other_codes))]
 fn other_codes(i: u64) -> Codes
     ensures { result ≡ other_codes i }
 {
@@ -198,47 +204,42 @@ fn other_codes(i: u64) -> Codes
 }
 
 // The code bytes of a first record.
+#[tactic(auto, unfolding(crate::specs::Plan::first_codes))]
 pub fn first_codes(kind: u64) -> Codes
     ensures { result ≡ first_codes kind }
 {
-    if kind == 0 {
-        return other_codes(0);
-    }
-    other_codes(kind - 1)
+    other_codes(kind.saturating_sub(1))
 }
 
 // The code bytes of a line, by the image's sort.
 pub fn line_codes(sort: u64) -> Codes
     ensures { result ≡ line_codes sort }
 {
-    let row = sort_at(sort);
-    four_codes(50, row.code, 18, 20)
+    four_codes(50, sort_at(sort).code, 18, 20)
 }
 
 // The code bytes of a record of a run; run 0 is the first record.
+#[tactic(auto, unfolding(crate::specs::Plan::codes_of))]
 fn codes_of(kind: u64, p: Plan, run: u64) -> Codes
     ensures { result ≡ codes_of kind p run }
 {
     if run == 0 {
         return first_codes(kind);
     }
-    if kind == LEADER {
-        let row = slot_at(run - 1);
-        return Codes {
-            one: 18,
-            two: row.code,
-            three: 18,
-            four: 20,
-            free: row.free,
-        };
-    }
-    if kind == VOLUME {
-        if run < 3 {
-            return other_codes(3 + run);
+    match kind {
+        LEADER => {
+            let row = slot_at(run - 1);
+            Codes {
+                one: 18,
+                two: row.code,
+                three: 18,
+                four: 20,
+                free: row.free,
+            }
         }
-        return other_codes(6);
+        VOLUME => other_codes(3 + run.min(3)),
+        _ => line_codes(p.sort),
     }
-    line_codes(p.sort)
 }
 
 // All zeros: the plan of a state that has passed nothing.
@@ -258,6 +259,7 @@ pub fn zero() -> Plan
     }
 }
 
+#[tactic(auto, unfolding(crate::specs::Plan::first_length))]
 pub fn first_length(kind: u64) -> u64
     ensures { result ≡ first_length kind }
 {
@@ -266,45 +268,39 @@ pub fn first_length(kind: u64) -> u64
 
 // The runs behind the first record: pointers and one text; the leader's slots and facility pairs;
 // the image's lines; none for a trailer.
+#[tactic(auto, unfolding(crate::specs::Plan::run_counts, crate::specs::Plan::run_lengths))]
 pub fn runs_of(kind: u64, p: Plan) -> Runs
     ensures { (result.counts ≡ run_counts kind p) × (result.lengths ≡ run_lengths kind p) }
 {
     let mut counts = [0u64; ROWS];
     let mut lengths = [0u64; ROWS];
-    if kind == VOLUME {
-        counts[0] = p.pointers;
-        counts[1] = 1;
-        lengths[0] = 360;
-        lengths[1] = 360;
-        return Runs { counts, lengths };
+    match kind {
+        VOLUME => {
+            counts[0] = p.pointers;
+            counts[1] = 1;
+            lengths[0] = 360;
+            lengths[1] = 360;
+            Runs { counts, lengths }
+        }
+        LEADER => {
+            let counts = p.counts;
+            let lengths = p.lengths;
+            Runs { counts, lengths }
+        }
+        IMAGE => {
+            counts[0] = p.n;
+            lengths[0] = p.l;
+            Runs { counts, lengths }
+        }
+        _ => Runs { counts, lengths },
     }
-    if kind == LEADER {
-        let c = p.counts;
-        let l = p.lengths;
-        return Runs {
-            counts: c,
-            lengths: l,
-        };
-    }
-    if kind == IMAGE {
-        counts[0] = p.n;
-        lengths[0] = p.l;
-    }
-    Runs { counts, lengths }
 }
 
 fn sum(counts: [u64; ROWS]) -> u64
-    requires { (i : ℕ) → i < rows → get_or counts i 0 ≤ 999999 }
-    ensures value { result ≡ sum_of counts }
-    ensures upper_bound { result ≤ records_most }
+    requires { sum counts < 2 ^ 64 }
+    ensures { result ≡ sum counts }
 {
-    let mut total: u64 = 0;
-    let mut i: usize = 0;
-    while i < ROWS {
-        total += counts[i];
-        i += 1;
-    }
-    total
+    counts.iter().sum()
 }
 
 // How many records are planned, the first among them.
@@ -312,43 +308,41 @@ pub fn total(kind: u64, p: Plan) -> u64
     requires { Small (run_counts kind p) (run_lengths kind p) }
     ensures { (result ≡ total_of kind p) × (result ≤ 17000001) }
 {
-    let r = runs_of(kind, p);
-    let c = r.counts;
-    1 + sum(c)
+    let counts = runs_of(kind, p).counts;
+    1 + sum(counts)
 }
 
 // Record k of the runs, the first of which starts at `at`.
-fn find(counts: [u64; ROWS], lengths: [u64; ROWS], k: u64, at: u64) -> Spot
-    requires small { Small counts lengths }
+fn find(runs: Runs, k: u64, at: u64) -> Spot
+    requires small { Small runs.counts runs.lengths }
     requires at_bound { at ≤ 720 }
-    ensures value { result ≡ spot_from 1 counts lengths k at }
+    ensures value { result ≡ spot_from 1 runs.counts runs.lengths k at }
     ensures spotted { Spotted result }
 {
-    let mut i: usize = 0;
     let mut left = k;
     let mut start = at;
-    while i < ROWS {
-        let c = counts[i];
-        let l = lengths[i];
-        if left < c {
+    for i in 0..ROWS {
+        let count = runs.counts[i];
+        let length = runs.lengths[i];
+        if left < count {
             return Spot {
                 run: i as u64 + 1,
-                length: l,
-                start: start + left * l,
+                length,
+                start: start + left * length,
             };
         }
-        left -= c;
-        start += c * l;
-        i += 1;
+        left -= count;
+        start += count * length;
     }
     Spot {
-        run: i as u64 + 1,
+        run: ROWS as u64 + 1,
         length: 0,
         start,
     }
 }
 
 // Where record k stands; behind the last one, the place where the file ends.
+#[tactic(auto, unfolding(crate::specs::Plan::spot_of))]
 fn spot_of(kind: u64, p: Plan, k: u64) -> Spot
     requires { Small (run_counts kind p) (run_lengths kind p) }
     ensures value { result ≡ spot_of kind p k }
@@ -362,10 +356,7 @@ fn spot_of(kind: u64, p: Plan, k: u64) -> Spot
             start: 0,
         };
     }
-    let r = runs_of(kind, p);
-    let c = r.counts;
-    let l = r.lengths;
-    find(c, l, k - 1, first)
+    find(runs_of(kind, p), k - 1, first)
 }
 
 // The record that is due behind k others: behind the last one, its start is the place where the file
@@ -377,11 +368,10 @@ pub fn due_of(kind: u64, p: Plan, k: u64) -> Due
     ensures placed { Placed result }
 {
     let s = spot_of(kind, p, k);
-    let codes = codes_of(kind, p, s.run);
     Due {
         ordinal: k + 1,
         run: s.run,
-        codes,
+        codes: codes_of(kind, p, s.run),
         length: s.length,
         start: s.start,
     }

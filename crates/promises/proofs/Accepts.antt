@@ -10,6 +10,8 @@ use native.Mathlib.Numerals.{add-one}
 use lib.ListN.{length, take, drop, length-append, take-append-drop, drop_of_length-le, length-drop}
 use lib.Seq.{drop-cons, length-take-le, take_at, drop_at}
 use borrow.Author.Tests.{le-leb}
+use Rattle.std.specs.Prelude.{Ok, Err}
+use Rattle.std.proofs.lemmas.List.{nil_from_length}
 use Rattle.words.specs.Tests.{within_of}
 use Rattle.words.proofs.Laws.{both_make, within_true}
 use Rattle.plan.specs.Tables.{rows}
@@ -22,7 +24,6 @@ use Rattle.walk.specs.State.{fresh, good_state, next_due}
 use Rattle.walk.specs.Walk.{turn_of, next_of, walk_of}
 use Rattle.walk.specs.declared.State.{State}
 use Rattle.turns.specs.declared.Stop.TheVariants.{Complete, Pause}
-use Rattle.turns.specs.declared.Turn.TheVariants.{Pass, Halt}
 use Rattle.walk.specs.declared.Walked.{Walked}
 use Rattle.walk.proofs.GoodLaws.{good_some, fresh_good}
 use Rattle.walk.proofs.LoopLaws.{walk_pause}
@@ -36,10 +37,6 @@ use Rattle.promises.proofs.FirstIs.{first_is, first_names, Fault_free}
 use Rattle.promises.proofs.AnyEdition.{first_size, same_promised}
 use Rattle.promises.proofs.LaterIs.{due, due_at, later_is, promised_length}
 use Rattle.promises.proofs.Least.{spot_least, first_least}
-
-none_left : (b : List ℕ) → length b ≡ 0 → b ≡ []
-none_left [] e = refl
-none_left (x ∷ xs) e = absurd (omega arith)
 
 kind_known : (kind : Kind) → within_of 1 (kind_number kind) 4 ≡ true
 kind_known volume = refl
@@ -77,7 +74,7 @@ module _ (kind : Kind) (p : Plan) (good : plan_good (kind_number kind) p ≡ tru
   walk_to : (n k : ℕ) (bs : List ℕ) → suc k ≤ total_of (kind_number kind) p → (walk_of n (behind kind p k) bs true).stop ≡ Complete → Rest kind p k bs
   walk_to zero k bs h e =
       absurd (let q : Pause ≡ Complete = sym (ap (λ (w : Walked). w.stop) (walk_pause (behind kind p k) bs true (good_behind k h))) ∙ e in
-      let z : ◌≡◌ {A = ℕ} 0 1 = cc in omega arith)
+      cc)
   walk_to (suc n) k bs h e = go (walk_to n (suc k)) ((ends_is (behind kind p k) bs n (good_behind k h)).0 e)
     where
       go : ((bs : List ℕ) → suc (suc k) ≤ total_of (kind_number kind) p → (walk_of n (behind kind p (suc k)) bs true).stop ≡ Complete → Rest kind p (suc k) bs)
@@ -86,7 +83,7 @@ module _ (kind : Kind) (p : Plan) (good : plan_good (kind_number kind) p ≡ tru
           let c = (complete_is (kind_number kind) p (suc k) (due_at kind p k) bs).0 q in
           record {
             records = [];
-            are = sym (none_left bs c.1);
+            are = sym (nil_from_length bs c.1);
             follow = subst (λ (ds : List Due). Follow (suc k) ds []) (sym (all_passed k c.0)) tt;
           }
       go more (later q w) =
@@ -176,13 +173,13 @@ module _ (kind : Kind) (bs : List ℕ) where
   unfolding next_of spot_of
   next_fresh = refl
 
-  fresh_going : turn_of (fresh (kind_number kind)) bs true ≡ Halt Complete → ⊥
+  fresh_going : turn_of (fresh (kind_number kind)) bs true ≡ Err Complete → ⊥
   fresh_going e =
       let h = (complete_is (kind_number kind) zero_plan 0 (next_due (fresh (kind_number kind))) bs).0 e in
       omega (arith, one_total (kind_number kind) zero_plan)
 
   pub fresh_is : (c : Bool)
-      → (turn_of (fresh (kind_number kind)) bs c ≡ Pass) ↔ ((first_length (kind_number kind) ≤ length bs) × Fault_free (kind_number kind) zero_plan front)
+      → (turn_of (fresh (kind_number kind)) bs c ≡ Ok tt) ↔ ((first_length (kind_number kind) ≤ length bs) × Fault_free (kind_number kind) zero_plan front)
   unfolding spot_of codes_of
   fresh_is c =
       let i = pass_is (kind_number kind) zero_plan 0 (next_due (fresh (kind_number kind))) bs c (one_total (kind_number kind) zero_plan) (first_least kind) in
@@ -196,7 +193,7 @@ pub complete_accepted : (kind : Kind) (bs : List ℕ) (n : ℕ) → (walk_of n (
 unfolding spot_of
 complete_accepted kind bs zero e =
     absurd (let q : Pause ≡ Complete = sym (ap (λ (w : Walked). w.stop) (walk_pause (fresh (kind_number kind)) bs true (good_fresh kind))) ∙ e in
-    let z : ◌≡◌ {A = ℕ} 0 1 = cc in omega arith)
+    cc)
 complete_accepted kind bs (suc n) e = go ((ends_is (fresh (kind_number kind)) bs n (good_fresh kind)).0 e)
   where
     go : Ends (fresh (kind_number kind)) bs n (good_fresh kind) → Accepted kind bs

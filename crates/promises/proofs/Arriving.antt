@@ -78,7 +78,7 @@ open_stop Complete p c w = absurd (c refl)
 open_stop (Refused r) p c w = (r, refl)
 
 not_both : (x : Stop) → Waits x → Refuses x → ⊥
-not_both x (n, e) (r, f) = let z : ◌≡◌ {A = ℕ} 0 1 = cc in omega arith
+not_both x (n, e) (r, f) = cc
 
 wait_or : (x : Stop) → (x ≡ Pause → ⊥) → (x ≡ Complete → ⊥) → (Refuses x → ⊥) → Waits x
 wait_or (Wait n) p c r = (n, refl)

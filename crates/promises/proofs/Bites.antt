@@ -24,7 +24,6 @@ use Rattle.walk.specs.State.{fresh, good_state}
 use Rattle.headers.specs.Header.{header_of, header_tests, codes_are}
 use Rattle.turns.specs.Turn.{judge_of, ended_of, short_of}
 use Rattle.walk.specs.Walk.{walk_of, next_of, bad_stop}
-use Rattle.turns.specs.declared.Stop.{Stop}
 use Rattle.turns.specs.declared.Stop.TheVariants.{Complete}
 use Rattle.walk.specs.declared.Walked.{Walked}
 use Rattle.promises.specs.Rules.{image, trailer}
@@ -64,15 +63,15 @@ never_complete : (W : Walk) → ((W 4 (fresh 3) listed true).stop ≡ Complete �
 never_complete W h d = h ((d image listed 4 listed_planned).1 listed_accepted)
 
 pub always_refusing : (r : Refusal) → Demand2 (refuser r) → ⊥
-always_refusing r = never_complete (refuser r) (λ e. let z : ◌≡◌ {A = ℕ} 0 1 = cc in omega arith)
+always_refusing r = never_complete (refuser r) (λ e. cc)
 
 pub always_waiting : (m : ℕ) → Demand2 (waiter m) → ⊥
-always_waiting m = never_complete (waiter m) (λ e. let z : ◌≡◌ {A = ℕ} 0 1 = cc in omega arith)
+always_waiting m = never_complete (waiter m) (λ e. cc)
 
 -- no trailer is empty
 empty_refused : (walk_of 9 (fresh 4) [] true).stop ≡ Complete → ⊥
 unfolding total_of sum_of run_counts run_lengths first_length spot_of all_zero zero_plan? good_state walk_of judge_of short_of
-empty_refused e = let z : ◌≡◌ {A = ℕ} 0 1 = cc in omega arith
+empty_refused e = cc
 
 -- a trailer is one record, so nine is above what the empty file plans
 pub empty_planned : planned_total trailer [] < 9
@@ -96,7 +95,7 @@ unfolding wrong written decimal_of number_in mantissa_of exponent_of two_at four
     text_at body_of body_tests
     image_record image_tests numbers_tests agree_tests line_tests volume_record leader_record trailer_tests plan_of good_state walk_of judge_of header_of
     header_tests codes_are ended_of short_of next_of bad_stop
-wrong_refused e = let z : ◌≡◌ {A = ℕ} 0 1 = cc in omega arith
+wrong_refused e = cc
 
 wrong_planned : planned_total image wrong < 4
 unfolding wrong written decimal_of number_in mantissa_of exponent_of two_at four_at place_of field_at total_of sum_of run_counts first_length plan_of

@@ -48,7 +48,7 @@ strange_none : Starts trailer strange → ⊥
 strange_none = refused_none trailer begun 9 strange strange_refused
 
 pub always_waiting_open : (m : ℕ) → Demand3 (waiter m) → ⊥
-always_waiting_open m d = strange_none ((d trailer strange 9 (inr (λ e. let z : ◌≡◌ {A = ℕ} 0 1 = cc in omega arith)) strange_end).0.0 (m, refl))
+always_waiting_open m d = strange_none ((d trailer strange 9 (inr (λ e. cc)) strange_end).0.0 (m, refl))
 
 -- some trailer there is, and it begins with nothing
 empty_starts : Starts trailer []
@@ -59,10 +59,10 @@ empty_starts = go (some_file 4 (omega arith) (omega arith))
 
 pub always_refusing_open : (r : Refusal) → Demand3 (refuser r) → ⊥
 always_refusing_open r d =
-    (d trailer [] 9 (inr (λ e. let z : ◌≡◌ {A = ℕ} 0 1 = cc in omega arith)) ([], refl, tt)).1.0 (r, refl) empty_starts
+    (d trailer [] 9 (inr (λ e. cc)) ([], refl, tt)).1.0 (r, refl) empty_starts
 
 pub always_pausing_open : Demand3 pauser → ⊥
 always_pausing_open d = go ((d trailer [] 9 (inl empty_planned) ([], refl, tt)).0.1 empty_starts)
   where
     go : Waits Pause → ⊥
-    go (n, e) = let z : ◌≡◌ {A = ℕ} 0 1 = cc in omega arith
+    go (n, e) = cc

@@ -22,9 +22,8 @@ use Rattle.walk.specs.State.{good_state}
 use Rattle.headers.specs.Header.{header_of, header_tests, codes_are}
 use Rattle.turns.specs.Turn.{judge_of, ended_of, short_of}
 use Rattle.walk.specs.Walk.{walk_of, next_of, bad_stop}
-use Rattle.lines.specs.View.{shown_of, found_in, line_at, line_of, view_of, sort_seen}
+use Rattle.lines.specs.View.{shown_of, found_in, line_at, line_of, view_of, sort_seen, shown_view}
 use Rattle.copies.specs.Row.{samples_from, row_of}
-use Rattle.lines.specs.declared.View.TheVariants.{Shown}
 use Rattle.promises.specs.Examples.{listed}
 use Rattle.promises.specs.Shown.{LineShown}
 use Rattle.promises.specs.Demands.{Copies, Keeps, copier, idler}
@@ -39,7 +38,7 @@ pub ours_keeps : Keeps copier
 ours_keeps = row_kept
 
 -- line 1 of the listed image: three pixels, all 0
-listed_shown : view_of listed 1 ≡ Shown 912 3 0
+listed_shown : view_of listed 1 ≡ shown_view 912 3 0
 unfolding written decimal_of number_in mantissa_of exponent_of two_at four_at place_of field_at slot_of other_codes sort_of total_of sum_of
     run_counts run_lengths
     first_length spot_of spot_from codes_of first_codes all_zero zero_plan? plan_good image_good volume_good leader_good slots_good first_fault

@@ -9,6 +9,7 @@ use native.Mathlib.Omega.{arith}
 use lib.Dec.{eqb}
 use lib.ListN.{length, take, drop}
 use borrow.Author.Tests.{eqb-true, eq-eqb, ne_eqb}
+use Rattle.std.specs.Prelude.{Ok}
 use Rattle.words.specs.Tests.{pick}
 use Rattle.words.specs.Words.{place_of}
 use Rattle.decimal.specs.Text.{bytes}
@@ -20,7 +21,6 @@ use Rattle.volume.specs.Volume.{class_text, pointer_tests, volume_record}
 use Rattle.leader.specs.Leader.{fields_tests, leader_record}
 use Rattle.image.specs.Image.{line_tests, image_record}
 use Rattle.bodies.specs.Bodies.{body_of, body_tests}
-use Rattle.verdicts.specs.declared.Verdict.TheVariants.{Fine}
 use Rattle.verdicts.proofs.Holding.{Holds, fine_holds, holds_fine, number_holds}
 use Rattle.promises.specs.Rules.{Kind, volume, leader, image, trailer, kind_number, class_of, Line, free}
 use Rattle.promises.specs.Newest.{Readable, Pointer, Summary, Map}
@@ -150,11 +150,11 @@ Long image (suc i) l = Unit {0}
 Long trailer run l = ⊥
 
 module _ (p : Plan) (i k : ℕ) (r : List ℕ) where
-  pub other_volume : body_of 1 (suc (suc i)) p k r ≡ Fine
+  pub other_volume : body_of 1 (suc (suc i)) p k r ≡ Ok tt
   unfolding body_of body_tests volume_record first_fault
   other_volume = simp (ne_eqb (suc (suc i)) 0 (omega arith), ne_eqb (suc (suc i)) 1 (omega arith))
 
-  pub other_leader : body_of 2 (suc (suc (suc i))) p k r ≡ Fine
+  pub other_leader : body_of 2 (suc (suc (suc i))) p k r ≡ Ok tt
   unfolding body_of body_tests leader_record first_fault
   other_leader = simp (ne_eqb (suc (suc (suc i))) 0 (omega arith), ne_eqb (suc (suc (suc i))) 1 (omega arith), ne_eqb (suc (suc (suc i))) 2 (omega arith))
 
@@ -163,7 +163,7 @@ module _ (p : Plan) (i k : ℕ) (r : List ℕ) where
   of_line = simp (ne_eqb (suc i) 0 (omega arith))
 
 pub body_is : (kind : Kind) (p : Plan) (run k : ℕ) (r : List ℕ) → Long kind run (length r)
-    → (body_of (kind_number kind) run p k r ≡ Fine) ↔ holds_of kind p run k r
+    → (body_of (kind_number kind) run p k r ≡ Ok tt) ↔ holds_of kind p run k r
 unfolding body_of body_tests volume_record leader_record image_record first_fault
 body_is volume p zero k r h = absurd h
 body_is volume p (suc zero) k r h = (

@@ -9,6 +9,7 @@ use lib.Dec.{eqb}
 use lib.ListN.{length, take, drop}
 use lib.Seq.{take-length, drop_at}
 use borrow.Author.Tests.{le-leb}
+use Rattle.std.specs.Prelude.{Ok}
 use Rattle.words.specs.Tests.{pick}
 use Rattle.words.proofs.Laws.{both_make, within_true, true_within}
 use Rattle.plan.specs.Tables.{rows}
@@ -18,8 +19,6 @@ use Rattle.plan.proofs.Bounds.{small_good, total_small}
 use Rattle.bodies.specs.Bodies.{body_of}
 use Rattle.leader.specs.Leader.{counts_of, lengths_of}
 use Rattle.bodies.specs.Named.{plan_of}
-use Rattle.verdicts.specs.declared.Verdict.TheVariants.{Fine}
-use Rattle.verdicts.specs.declared.Verdict.{Verdict}
 use Rattle.bodies.proofs.Named.{first_good}
 use Rattle.walk.specs.State.{fresh, good_state, next_due}
 use Rattle.headers.specs.Header.{header_of}
@@ -27,12 +26,12 @@ use Rattle.turns.specs.Turn.{on_fine, ended_of}
 use Rattle.walk.specs.Walk.{turn_of, next_of, walk_of}
 use Rattle.walk.specs.declared.State.{State}
 use Rattle.turns.specs.declared.Stop.TheVariants.{Complete}
-use Rattle.turns.specs.declared.Turn.TheVariants.{Pass}
 use Rattle.walk.specs.declared.Walked.{Walked}
 use Rattle.walk.proofs.GoodLaws.{good_known, good_some, good_later, fresh_good}
 use Rattle.walk.proofs.LoopLaws.{walk_halt, walk_pass}
 use Rattle.turns.proofs.TurnLaws.{judge_ended, judge_body, one_total}
 use Rattle.walk.proofs.TurnLaws.{next_as_later}
+use Rattle.verdicts.specs.Tests.{Verdict}
 use Rattle.promises.specs.Bytes.{Bytes}
 use Rattle.promises.proofs.Turns.{turn_pass_stays, next_stays}
 use Rattle.promises.proofs.Made.{bytes_join}
@@ -47,7 +46,7 @@ pub record Done (m : ℕ) (st : State) : Type 0 where
 
 -- a record that passes, before bytes that complete the state behind it
 module _ (st : State) (g : good_state st ≡ true) (r : List ℕ) (b : Bytes r) (e : length r ≡ (next_due st).length) where
-  one_more : turn_of st r false ≡ Pass → (m : ℕ) → Done m (next_of st r) → Done (suc m) st
+  one_more : turn_of st r false ≡ Ok tt → (m : ℕ) → Done m (next_of st r) → Done (suc m) st
   one_more t m d =
       record {
         rest = r ++ d.rest;
@@ -62,13 +61,13 @@ module _ (st : State) (g : good_state st ≡ true) (r : List ℕ) (b : Bytes r) 
       }
 
   pub passes : st.passed < total_of st.kind st.plan → 12 ≤ length r
-      → header_of (st.passed + 1) (next_due st).codes (next_due st).length r ≡ Fine
-      → body_of st.kind (next_due st).run st.plan st.passed r ≡ Fine → turn_of st r false ≡ Pass
+      → header_of (st.passed + 1) (next_due st).codes (next_due st).length r ≡ Ok tt
+      → body_of st.kind (next_due st).run st.plan st.passed r ≡ Ok tt → turn_of st r false ≡ Ok tt
   passes going twelve h f =
       judge_body st.kind st.plan st.passed (next_due st) r false going twelve h (omega arith)
-      ∙ ap (λ (y : List ℕ). on_fine (body_of st.kind (next_due st).run st.plan st.passed y) (st.passed + 1) (next_due st).start Pass)
+      ∙ ap (λ (y : List ℕ). on_fine (body_of st.kind (next_due st).run st.plan st.passed y) (st.passed + 1) (next_due st).start (Ok tt))
       (ap (λ (n : ℕ). take n r) (sym e) ∙ take-length r)
-      ∙ ap (λ (v : Verdict). on_fine v (st.passed + 1) (next_due st).start Pass) f
+      ∙ ap (λ (v : Verdict). on_fine v (st.passed + 1) (next_due st).start (Ok tt)) f
 
 -- ---- behind the first record
 
@@ -97,8 +96,8 @@ module _ (kind : ℕ) (p : Plan) (a : 1 ≤ kind) (b : kind ≤ 4) (g : plan_goo
   at_later (suc d) k h e = go (later_some kind p k a b g c l h (omega arith)) (at_later d (k + 1) (omega arith) (omega arith))
     where
       go : (r : List ℕ) × Bytes r × (length r ≡ (due_of kind p k).length)
-          × (header_of (due_of kind p k).ordinal (due_of kind p k).codes (due_of kind p k).length r ≡ Fine)
-          × (body_of kind (due_of kind p k).run p k r ≡ Fine) → Done (suc d) (at kind p (k + 1)) → Done (suc (suc d)) (at kind p k)
+          × (header_of (due_of kind p k).ordinal (due_of kind p k).codes (due_of kind p k).length r ≡ Ok tt)
+          × (body_of kind (due_of kind p k).run p k r ≡ Ok tt) → Done (suc d) (at kind p (k + 1)) → Done (suc (suc d)) (at kind p k)
       go (r, y, z, i, f) x =
           let st = at kind p k in
           let gs = at_good k h (omega arith) in
@@ -148,15 +147,15 @@ module _ (kind : ℕ) (p : Plan) (a : 1 ≤ kind) (b : kind ≤ 4) where
   unfolding spot_of codes_of next_of
   from_first g = go (first_some kind a b)
     where
-      go : (r : List ℕ) × Bytes r × (length r ≡ first_length kind) × ((q : Plan) → header_of 1 (first_codes kind) (first_length kind) r ≡ Fine)
-          × ((q : Plan) → body_of kind 0 q 0 r ≡ Fine) → Enough (at kind p 0)
+      go : (r : List ℕ) × Bytes r × (length r ≡ first_length kind) × ((q : Plan) → header_of 1 (first_codes kind) (first_length kind) r ≡ Ok tt)
+          × ((q : Plan) → body_of kind 0 q 0 r ≡ Ok tt) → Enough (at kind p 0)
       go (r, y, z, i, f) =
           let st = at kind p 0 in
           let q : Plan = plan_of kind r in
           let gq : plan_good kind q ≡ true = first_good kind p r a b (f p) in
           let d : ℕ = total_of kind q - 1 in
           let small = total_small kind q (named_counts kind r) (small_good kind q gq) in
-          let t : turn_of st r false ≡ Pass = passes st g r y z (omega (arith, one_total kind p)) (first_twelve kind r z) (i p) (f p) in
+          let t : turn_of st r false ≡ Ok tt = passes st g r y z (omega (arith, one_total kind p)) (first_twelve kind r z) (i p) (f p) in
           let e : plan_of kind r ≡ plan_of kind (take (first_length kind) r) = ap (plan_of kind) (sym (ap (λ (n : ℕ). take n r) (sym z) ∙ take-length r)) in (
             suc (suc d),
             omega arith,

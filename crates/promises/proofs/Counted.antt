@@ -5,12 +5,12 @@ use mathlib.Core.Logic.{◌≢◌}
 use mathlib.Core.List.{List}
 use mathlib.Core.Bool.{Bool, true, false}
 use native.Mathlib.Omega.{arith}
+use Rattle.std.specs.Prelude.{Err}
 use Rattle.words.specs.declared.Refusal.{Refusal}
 use Rattle.walk.specs.State.{good_state}
 use Rattle.walk.specs.Walk.{bad_stop, walk_of}
 use Rattle.walk.specs.declared.State.{State}
 use Rattle.turns.specs.declared.Stop.TheVariants.{Wait, Pause, Complete, Refused}
-use Rattle.turns.specs.declared.Turn.TheVariants.{Halt}
 use Rattle.walk.proofs.LoopLaws.{walk_bad}
 use Rattle.walk.proofs.TurnLaws.{next_passed}
 use Rattle.promises.proofs.Steps.{by_turns}
@@ -48,7 +48,7 @@ pub closed_never_waits : (b : ℕ) (st : State) (bs : List ℕ) (m : ℕ) → (w
 unfolding bad_stop
 closed_never_waits b st bs m =
     by_turns true (λ n s y w u. w.stop ≢ Wait m) (λ n s y g e. wait≢refused (sym e)) (λ s y g e. wait≢pause (sym e))
-    (λ n s y x g t e. closed_turn s y m (t ∙ ap Halt e)) (λ n s y w u g t e. e) b st bs
+    (λ n s y x g t e. closed_turn s y m (t ∙ ap Err e)) (λ n s y w u g t e. e) b st bs
 
 -- a refused record is the one behind the state handed back: the state is the one before that record
 pub refused_ordinal : (b : ℕ) (st : State) (bs : List ℕ) (c : Bool) (x : Refusal) → (walk_of b st bs c).stop ≡ Refused x → x.number ≢ 11

@@ -28,10 +28,10 @@ accepts_unpaused kind bs n h =
     (λ e. a.0 (q ∙ e), λ x. sym q ∙ a.1 x)
 
 complete? : (x : Stop) → Dec (x ≡ Complete)
-complete? (Wait n) = no (λ e. let z : ◌≡◌ {A = ℕ} 0 1 = cc in omega arith)
-complete? Pause = no (λ e. let z : ◌≡◌ {A = ℕ} 0 1 = cc in omega arith)
+complete? (Wait n) = no (λ e. cc)
+complete? Pause = no (λ e. cc)
 complete? Complete = yes refl
-complete? (Refused r) = no (λ e. let z : ◌≡◌ {A = ℕ} 0 1 = cc in omega arith)
+complete? (Refused r) = no (λ e. cc)
 
 -- whether bytes are a file of that kind
 pub decided : (kind : Kind) (bs : List ℕ) → Dec (Accepted kind bs)

@@ -5,6 +5,7 @@ use mathlib.Core.Logic.{◌↔◌, ⊎_elim}
 use mathlib.Core.List.{List}
 use mathlib.Core.Bool.{Bool, true, false, false≢true}
 use native.Mathlib.Omega.{arith}
+use Rattle.std.specs.Prelude.{Err}
 use Rattle.words.specs.Tests.{pick}
 use Rattle.words.specs.declared.Refusal.{Refusal}
 use Rattle.words.proofs.Laws.{cases}
@@ -14,7 +15,6 @@ use Rattle.walk.specs.Walk.{turn_of, walk_of}
 use Rattle.walk.specs.declared.State.{State}
 use Rattle.turns.specs.declared.Stop.{Stop}
 use Rattle.turns.specs.declared.Stop.TheVariants.{Wait, Complete, Refused}
-use Rattle.turns.specs.declared.Turn.TheVariants.{Halt}
 use Rattle.walk.specs.declared.Walked.{Walked}
 use Rattle.turns.proofs.FaultLaws.{FaultCan, header_can, body_can}
 use Rattle.walk.proofs.TurnLaws.{good_next}
@@ -29,11 +29,11 @@ LowStop z = (y : Refusal) → z ≡ Refused y → y.number ≤ 10
 refused_low : (o a n p : ℕ) → n ≤ 10 → LowStop (refused_at o a n p)
 refused_low o a n p h y e = subst (λ (r : Refusal). r.number ≤ 10) (refused_same e) h
 
-turn_low : (st : State) (b : List ℕ) (c : Bool) (x : Stop) → turn_of st b c ≡ Halt x → LowStop x
+turn_low : (st : State) (b : List ℕ) (c : Bool) (x : Stop) → turn_of st b c ≡ Err x → LowStop x
 turn_low st b c x =
     halt_of LowStop st b c x (closing c) (λ n y e. absurd (wait≢refused e)) (refused_low _ _ 9 0 (omega arith)) (refused_low _ _ 2 0 (omega arith))
-    (λ n p e. refused_low _ _ n p (subst (FaultCan 0 b) e (header_can _ _ _ b)).low)
-    (λ n p e. refused_low _ _ n p (subst (FaultCan _ _) e (body_can _ _ _ _ _)).low)
+    (λ y e. refused_low _ _ y.number y.place (subst (FaultCan 0 b) e (header_can _ _ _ b)).low)
+    (λ y e. refused_low _ _ y.number y.place (subst (FaultCan _ _) e (body_can _ _ _ _ _)).low)
   where
     closing : (c : Bool) → LowStop (pick c Complete (Wait 0))
     closing true y e = absurd (complete≢refused e)

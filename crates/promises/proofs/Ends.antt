@@ -10,6 +10,7 @@ use lib.Dec.{eqb, leb}
 use lib.ListN.{length, take, drop, length-append, get_or-append}
 use lib.Seq.{take_at, drop-drop, drop_at, drop-append-add, length-take-le}
 use borrow.Author.Tests.{eqb-true, ltb-true, ltb-false}
+use Rattle.std.specs.Prelude.{Ok, Err}
 use Rattle.words.specs.Tests.{pick}
 use Rattle.words.specs.Words.{two_at, four_at, place_of}
 use Rattle.plan.specs.Plan.{total_of, spot_of}
@@ -17,18 +18,15 @@ use Rattle.plan.specs.declared.Codes.{Codes}
 use Rattle.plan.specs.declared.Plan.{Plan}
 use Rattle.bodies.specs.Named.{plan_of}
 use Rattle.bodies.specs.Bodies.{body_of}
-use Rattle.verdicts.specs.declared.Verdict.{Verdict}
-use Rattle.verdicts.specs.declared.Verdict.TheVariants.{Fine, Fault}
+use Rattle.verdicts.specs.Tests.{Verdict}
 use Rattle.verdicts.proofs.Holding.{fine_holds}
 use Rattle.walk.specs.State.{fresh, good_state, next_due, start_of}
 use Rattle.headers.specs.Header.{header_tests, header_of}
-use Rattle.turns.specs.Turn.{refused_at, ended_of, short_of, on_fine, judge_of}
+use Rattle.turns.specs.Turn.{refused_at, ended_of, short_of, on_fine, judge_of, Turn}
 use Rattle.walk.specs.Walk.{turn_of, next_of, stopped, more, bad_stop, walk_of}
 use Rattle.walk.specs.declared.State.{State}
 use Rattle.turns.specs.declared.Stop.{Stop}
 use Rattle.turns.specs.declared.Stop.TheVariants.{Wait, Pause}
-use Rattle.turns.specs.declared.Turn.{Turn}
-use Rattle.turns.specs.declared.Turn.TheVariants.{Pass, Halt}
 use Rattle.walk.specs.declared.Walked.{Walked}
 use Rattle.turns.proofs.TurnLaws.{pass_parts}
 use Rattle.promises.specs.Rules.{Kind, kind_number, concat}
@@ -41,7 +39,7 @@ use Rattle.promises.proofs.Own.{reached}
 use Rattle.promises.proofs.Arriving.{arriving_any}
 
 -- a header that has no fault names the due length
-header_length : (o : ℕ) (c : Codes) (long : ℕ) (b : List ℕ) → header_of o c long b ≡ Fine → four_at b 8 ≡ long
+header_length : (o : ℕ) (c : Codes) (long : ℕ) (b : List ℕ) → header_of o c long b ≡ Ok tt → four_at b 8 ≡ long
 unfolding header_of header_tests
 header_length o c long b e = let h = fine_holds (header_tests o c long b) e in eqb-true (four_at b 8) long h.1.1.0
 
@@ -58,27 +56,27 @@ front r z h =
 
 -- what an open turn that waits has seen
 waited : (x y z : Bool) (h t : Verdict) (o a left m₁ m₂ m : ℕ)
-    → pick x (Halt (ended_of o a left false))
-    (pick y (Halt (short_of o a false m₁)) (on_fine h o a (pick z (Halt (short_of o a false m₂)) (on_fine t o a Pass)))) ≡ Halt (Wait m)
-    → (left ≡ 0) ⊎ ((y ≡ true) ⊎ ((h ≡ Fine) × (z ≡ true)))
+    → pick x (Err (ended_of o a left false))
+    (pick y (Err (short_of o a false m₁)) (on_fine h o a (pick z (Err (short_of o a false m₂)) (on_fine t o a (Ok tt))))) ≡ Err (Wait m)
+    → (left ≡ 0) ⊎ ((y ≡ true) ⊎ ((h ≡ Ok tt) × (z ≡ true)))
 unfolding ended_of short_of
 waited true y z h t o a left m₁ m₂ m e = inl (go (eqb left 0) refl e)
   where
-    go : (b : Bool) → eqb left 0 ≡ b → Halt (pick b (Wait 0) (refused_at o a 9 0)) ≡ Halt (Wait m) → left ≡ 0
+    go : (b : Bool) → eqb left 0 ≡ b → ◌≡◌ {A = Turn} (Err (pick b (Wait 0) (refused_at o a 9 0))) (Err (Wait m)) → left ≡ 0
     go true q f = eqb-true left 0 q
-    go false q f = let w : ◌≡◌ {A = ℕ} 0 1 = cc in absurd (omega arith)
+    go false q f = absurd cc
 waited false true z h t o a left m₁ m₂ m e = inr (inl refl)
-waited false false z (Fault n p) t o a left m₁ m₂ m e = let w : ◌≡◌ {A = ℕ} 0 1 = cc in absurd (omega arith)
-waited false false true Fine t o a left m₁ m₂ m e = inr (inr (refl, refl))
-waited false false false Fine Fine o a left m₁ m₂ m e = let w : ◌≡◌ {A = ℕ} 0 1 = cc in absurd (omega arith)
-waited false false false Fine (Fault n p) o a left m₁ m₂ m e = let w : ◌≡◌ {A = ℕ} 0 1 = cc in absurd (omega arith)
+waited false false z (Err r) t o a left m₁ m₂ m e = absurd cc
+waited false false true (Ok u) t o a left m₁ m₂ m e = inr (inr (refl, refl))
+waited false false false (Ok u) (Ok v) o a left m₁ m₂ m e = absurd cc
+waited false false false (Ok u) (Err r) o a left m₁ m₂ m e = absurd cc
 
 -- a chunk of the state's next record: whole by its own header, or as long as is due
 abbrev Chunk : State → List ℕ → Type 0
 Chunk st r = (12 ≤ length r) × ((four_at r (place_of 9) ≡ length r) ⊎ (length r ≡ (next_due st).length))
 
 -- before a chunk no turn waits
-no_wait : (st : State) (r z : List ℕ) → Chunk st r → (m : ℕ) → turn_of st (r ++ z) false ≡ Halt (Wait m) → ⊥
+no_wait : (st : State) (r z : List ℕ) → Chunk st r → (m : ℕ) → turn_of st (r ++ z) false ≡ Err (Wait m) → ⊥
 unfolding judge_of place_of
 no_wait st r z w m e =
     let l = w.0 in
@@ -99,10 +97,10 @@ no_wait st r z w m e =
 Nothing : ℕ → State → List ℕ → Walked → ℕ → Type 0
 Nothing n st y w u = (rs : List (List ℕ)) → concat rs ≡ y → Chunks st.kind st.plan st.passed rs → Waits w.stop → drop u y ≡ []
 
-nothing_halt : (n : ℕ) (st : State) (y : List ℕ) (x : Stop) → good_state st ≡ true → turn_of st y false ≡ Halt x → Nothing (suc n) st y (stopped st x) 0
+nothing_halt : (n : ℕ) (st : State) (y : List ℕ) (x : Stop) → good_state st ≡ true → turn_of st y false ≡ Err x → Nothing (suc n) st y (stopped st x) 0
 unfolding Nothing
 nothing_halt n st y x g t [] e h (m, q) = sym e
-nothing_halt n st y x g t (r ∷ rs) e h (m, q) = absurd (no_wait st r (concat rs) (h.0, h.1.0) m (ap (λ (b : List ℕ). turn_of st b false) e ∙ t ∙ ap Halt q))
+nothing_halt n st y x g t (r ∷ rs) e h (m, q) = absurd (no_wait st r (concat rs) (h.0, h.1.0) m (ap (λ (b : List ℕ). turn_of st b false) e ∙ t ∙ ap Err q))
 
 -- the plan behind a chunk that is the whole next record
 next_chunk : (st : State) (r z : List ℕ) → length r ≡ (next_due st).length
@@ -114,7 +112,7 @@ next_rest : (st : State) (y : List ℕ) → ((next_of st y).kind ≡ st.kind) ×
 unfolding next_of
 next_rest st y = (refl, refl)
 
-nothing_pass : (n : ℕ) (st : State) (y : List ℕ) (w : Walked) (u : ℕ) → good_state st ≡ true → turn_of st y false ≡ Pass
+nothing_pass : (n : ℕ) (st : State) (y : List ℕ) (w : Walked) (u : ℕ) → good_state st ≡ true → turn_of st y false ≡ Ok tt
     → Nothing n (next_of st y) (drop (next_due st).length y) w u → Nothing (suc n) st y (more 1 w) ((next_due st).length + u)
 unfolding Nothing place_of next_of
 nothing_pass n st y w u g t ih [] e h k =
@@ -132,14 +130,14 @@ nothing_pass n st y w u g t ih (r ∷ rs) e h k =
 
 wait≢ : (m : ℕ) (x : Stop) → x ≡ Wait m → x ≡ bad_stop → ⊥
 unfolding bad_stop
-wait≢ m x e f = let z : ◌≡◌ {A = ℕ} 0 1 = cc in omega arith
+wait≢ m x e f = cc
 
 nothing_left : (b : ℕ) (st : State) (bs : List ℕ) (rs : List (List ℕ)) → concat rs ≡ bs → Chunks st.kind st.plan st.passed rs
     → Waits (walk_of b st bs false).stop → drop (used_of b st bs false) bs ≡ []
 unfolding Nothing
 nothing_left =
     by_turns false Nothing (λ n s y g rs e h k. absurd (wait≢ k.0 bad_stop k.1 refl))
-    (λ s y g rs e h k. absurd (let q = k.1 in let z : ◌≡◌ {A = ℕ} 0 1 = cc in omega arith)) nothing_halt nothing_pass
+    (λ s y g rs e h k. absurd (let q = k.1 in cc)) nothing_halt nothing_pass
 
 -- ---- a state of one's own stands as far on as its calls passed
 

@@ -7,6 +7,7 @@ use mathlib.Core.Logic.{◌↔◌}
 use native.Mathlib.Omega.{arith}
 use lib.ListN.{length}
 use borrow.Author.Tests.{eqb-true, eq-eqb, leb-true, le-leb}
+use Rattle.std.specs.Prelude.{Ok}
 use Rattle.words.specs.Words.{place_of}
 use Rattle.decimal.specs.Text.{bytes}
 use Rattle.decimal.specs.declared.Form.TheVariants.{I4, I6, I8}
@@ -18,7 +19,6 @@ use Rattle.verdicts.specs.Tests.{text_at}
 use Rattle.verdicts.specs.Numbers.{at, last_of, number, number_at, row_tests, numbers_tests}
 use Rattle.image.specs.Image.{sort_in, image_numbers, agree_tests, agreements, image_tests, image_record}
 use Rattle.bodies.specs.Bodies.{body_of, body_tests}
-use Rattle.verdicts.specs.declared.Verdict.TheVariants.{Fine}
 use Rattle.verdicts.proofs.Holding.{Holds, fine_holds, holds_fine, holds_split, holds_join, each_holds, number_holds}
 use Rattle.headers.specs.Header.{header_of}
 use Rattle.image.proofs.ImageLaws.{sort_in_lem}
@@ -38,7 +38,7 @@ pub record Named (r : List ℕ) (q : Plan) : Type 0 where
   pub sort : sort_in r ≡ q.sort
 
 module _ (q : Plan) (r : List ℕ) (size : length r ≡ 720) where
-  numbers_to : Holds (image_tests r) → header_of 1 (first_codes 3) 720 r ≡ Fine → Named r q → ImageDescriptor r q
+  numbers_to : Holds (image_tests r) → header_of 1 (first_codes 3) 720 r ≡ Ok tt → Named r q → ImageDescriptor r q
   unfolding image_tests numbers_tests agree_tests first_codes other_codes place_of
   numbers_to h e m =
       let b = holds_split (numbers_tests r (image_numbers (sort_in r))) (agreements r) h.1.1 in
@@ -111,7 +111,7 @@ module _ (q : Plan) (r : List ℕ) (size : length r ≡ 720) where
       )
 
 pub image_is : (p q : Plan) (r : List ℕ) → length r ≡ 720
-    → ((header_of 1 (first_codes 3) 720 r ≡ Fine) × (body_of 3 0 p 0 r ≡ Fine) × Named r q) ↔ ImageDescriptor r q
+    → ((header_of 1 (first_codes 3) 720 r ≡ Ok tt) × (body_of 3 0 p 0 r ≡ Ok tt) × Named r q) ↔ ImageDescriptor r q
 unfolding body_of body_tests image_record first_codes other_codes
 image_is p q r size = (
   λ h. numbers_to q r size (fine_holds (image_tests r) h.1) h.0 h.2,

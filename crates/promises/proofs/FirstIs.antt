@@ -5,11 +5,11 @@ use mathlib.Core.Path.{◌≡◌}
 use mathlib.Core.List.{List}
 use mathlib.Core.Logic.{◌↔◌}
 use lib.ListN.{length}
+use Rattle.std.specs.Prelude.{Ok}
 use Rattle.plan.specs.Plan.{first_length, first_codes}
 use Rattle.plan.specs.declared.Plan.{Plan}
 use Rattle.bodies.specs.Bodies.{body_of}
 use Rattle.bodies.specs.Named.{plan_of}
-use Rattle.verdicts.specs.declared.Verdict.TheVariants.{Fine}
 use Rattle.headers.specs.Header.{header_of}
 use Rattle.promises.specs.Rules.{Kind, volume, leader, image, trailer, kind_number}
 use Rattle.promises.specs.Edition.{newest}
@@ -22,8 +22,8 @@ use Rattle.promises.proofs.FirstTrailer.{trailer_is}
 
 -- header and body of the first record have no fault
 pub record Fault_free (kind : ℕ) (p : Plan) (r : List ℕ) : Type 0 where
-  pub head : header_of 1 (first_codes kind) (first_length kind) r ≡ Fine
-  pub body : body_of kind 0 p 0 r ≡ Fine
+  pub head : header_of 1 (first_codes kind) (first_length kind) r ≡ Ok tt
+  pub body : body_of kind 0 p 0 r ≡ Ok tt
 
 pub first_names : (kind : Kind) (p q : Plan) (r : List ℕ) → length r ≡ first_length (kind_number kind)
     → (Fault_free (kind_number kind) p r × Same kind (plan_of (kind_number kind) r) q) ↔ First kind r q

@@ -6,6 +6,7 @@ use mathlib.Core.List.{List}
 use mathlib.Core.Logic.{◌↔◌}
 use native.Mathlib.Omega.{arith}
 use lib.ListN.{length, get_or}
+use Rattle.std.specs.Prelude.{Ok, Some, None, Option}
 use Rattle.words.specs.Words.{place_of}
 use Rattle.decimal.specs.Text.{bytes}
 use Rattle.decimal.specs.Forms.{width_of, shape_of}
@@ -15,10 +16,9 @@ use Rattle.plan.specs.Tables.{other_codes, slot_of, rows}
 use Rattle.plan.specs.Plan.{first_codes}
 use Rattle.plan.specs.declared.Plan.{Plan}
 use Rattle.plan.specs.declared.Slot.{Slot}
-use Rattle.leader.specs.Leader.{pair, pairs, pair_row, pair_tests, count_at, length_at, leader_record, leader_tests, counts_of, lengths_of}
+use Rattle.leader.specs.Leader.{pair, pairs, pair_row, slot_in, pair_tests, count_at, length_at, leader_record, leader_tests, counts_of, lengths_of}
 use Rattle.bodies.specs.Bodies.{body_of, body_tests}
 use Rattle.leader.specs.declared.Pair as declared
-use Rattle.verdicts.specs.declared.Verdict.TheVariants.{Fine}
 use Rattle.verdicts.proofs.Holding.{Holds, fine_holds, holds_fine, each_holds, holds_each}
 use Rattle.leader.proofs.PairLaws.{length_none, count_in_lem}
 use Rattle.headers.specs.Header.{header_of}
@@ -36,7 +36,7 @@ Named r q = (i : ℕ) → i < rows → NamedAt r q i
 
 module _ (r : List ℕ) (size : length r ≡ 720) where
   abbrev row : ℕ → declared.Pair
-  row j = get_or pairs j (pair 0 I4 0)
+  row j = get_or pairs j (pair 0 I4 (Some 0))
 
   -- pair j without a fault, with its count and length
   abbrev Passes : ℕ → ℕ → ℕ → Type 0
@@ -49,24 +49,24 @@ module _ (r : List ℕ) (size : length r ≡ 720) where
   -- any pair whose fields lie in the record: the one is the other
   is : (j : ℕ) → place_of (row j).byte + 6 ≤ length r → place_of ((row j).byte + 6) + width_of (row j).form ≤ length r →
       shape_of (row j).form ≡ Whole → (c l : ℕ)
-      → Passes j c l ↔ Ruled j (slot_of (row j).row) c l
+      → Passes j c l ↔ Ruled j (slot_in (row j).row) c l
   unfolding pair_tests
-  is j = pair_is r (row j) (slot_of (row j).row)
+  is j = pair_is r (row j) (slot_in (row j).row)
 
   -- a slot that is not admitted says 0
-  none_in : (j : ℕ) → (row j).row ≡ rows → Holds (pair_tests r (row j)) → Passes j 0 0
+  none_in : (j : ℕ) → (row j).row ≡ None → Holds (pair_tests r (row j)) → Passes j 0 0
   unfolding slot_of
   none_in j e h =
       let x = row j in
       let c = count_in_lem r x h in
-      let z : count_at r x ≡ 0 = omega (arith, c.1, ap (λ (i : ℕ). (slot_of i).most) e) in
+      let z : count_at r x ≡ 0 = omega (arith, c.1, ap (λ (i : Option ℕ). (slot_in i).most) e) in
       (h, z, length_none r x z)
 
   module _ (q : Plan) where
-    slots_to : header_of 1 (first_codes 2) 720 r ≡ Fine → Holds (leader_tests r) → Named r q → LeaderDescriptor r q
+    slots_to : header_of 1 (first_codes 2) 720 r ≡ Ok tt → Holds (leader_tests r) → Named r q → LeaderDescriptor r q
     unfolding leader_tests first_codes other_codes slot_of place_of counts_of lengths_of pair_row
     slots_to e h m =
-        let held = each_holds (pair_tests r) (pair 0 I4 0) pairs h.1 in
+        let held = each_holds (pair_tests r) (pair 0 I4 (Some 0)) pairs h.1 in
         record {
           is = (header_is 1 (first_codes 2) 720 r size).0 e;
           ab = (text_is r 12 (bytes "A ") (omega arith)).0 h.0;
@@ -134,7 +134,7 @@ module _ (r : List ℕ) (size : length r ≡ 720) where
         let s25 = (is 25 (omega arith) (omega arith) refl _ _).1 (d.facilities 10 (omega arith)) in (
           (
             (text_is r 12 (bytes "A ") (omega arith)).1 d.ab,
-            holds_each (pair_tests r) (pair 0 I4 0) pairs
+            holds_each (pair_tests r) (pair 0 I4 (Some 0)) pairs
                 (λ i l.
                 each_at (λ (j : ℕ). Holds (pair_tests r (row j))) 0 26
                 (next s0.0 (next s1.0 (next s2.0 (next s3.0 (next s4.0 (next s5.0
@@ -153,7 +153,7 @@ module _ (r : List ℕ) (size : length r ≡ 720) where
         )
 
 pub leader_is : (p q : Plan) (r : List ℕ) → length r ≡ 720
-    → ((header_of 1 (first_codes 2) 720 r ≡ Fine) × (body_of 2 0 p 0 r ≡ Fine) × Named r q) ↔ LeaderDescriptor r q
+    → ((header_of 1 (first_codes 2) 720 r ≡ Ok tt) × (body_of 2 0 p 0 r ≡ Ok tt) × Named r q) ↔ LeaderDescriptor r q
 unfolding body_of body_tests leader_record first_codes other_codes
 leader_is p q r size = (
   λ h. slots_to r size q h.0 (fine_holds (leader_tests r) h.1) h.2,

@@ -5,13 +5,13 @@ use mathlib.Core.List.{List}
 use mathlib.Core.Bool.{Bool, true}
 use native.Mathlib.Omega.{arith}
 use lib.ListN.{length, take, drop, length-append, take-append-drop}
+use Rattle.std.specs.Prelude.{Ok}
 use Rattle.plan.specs.Plan.{zero_plan, first_length, spot_of}
 use Rattle.plan.specs.declared.Plan.{Plan}
 use Rattle.walk.specs.State.{fresh, good_state, next_due}
 use Rattle.walk.specs.Walk.{turn_of, next_of, walk_of}
 use Rattle.walk.specs.declared.State.{State}
 use Rattle.turns.specs.declared.Stop.TheVariants.{Pause}
-use Rattle.turns.specs.declared.Turn.TheVariants.{Pass}
 use Rattle.walk.specs.declared.Walked.{Walked}
 use Rattle.walk.proofs.LoopLaws.{walk_pause, walk_pass}
 use Rattle.walk.proofs.TurnLaws.{good_next}
@@ -28,7 +28,7 @@ taken_long n bs e =
     omega (arith, length-append (take n bs) (drop n bs), ap length (take-append-drop n bs))
 
 -- one turn that passes: paused behind the record
-pub one_turn : (st : State) (bs : List ℕ) (c : Bool) → good_state st ≡ true → turn_of st bs c ≡ Pass
+pub one_turn : (st : State) (bs : List ℕ) (c : Bool) → good_state st ≡ true → turn_of st bs c ≡ Ok tt
     → walk_of 1 st bs c ≡ record { state = next_of st bs; count = 1; stop = Pause }
 one_turn st bs c g t =
     walk_pass st bs c 0 g t
@@ -39,7 +39,7 @@ module _ (kind : Kind) (bs : List ℕ) (q : Plan) (begins : First kind (take (fi
   size : length (take (first_length (kind_number kind)) bs) ≡ first_length (kind_number kind)
   size = first_size newest kind q (take (first_length (kind_number kind)) bs) begins
 
-  pub first_passes : (c : Bool) → turn_of (fresh (kind_number kind)) bs c ≡ Pass
+  pub first_passes : (c : Bool) → turn_of (fresh (kind_number kind)) bs c ≡ Ok tt
   first_passes c = (fresh_is kind bs c).1 (
     taken_long (first_length (kind_number kind)) bs size,
     ((first_names kind zero_plan q (take (first_length (kind_number kind)) bs) size).1 begins).0,

@@ -5,19 +5,19 @@ use mathlib.Core.List.{List}
 use mathlib.Core.Logic.{◌↔◌}
 use native.Mathlib.Omega.{arith}
 use lib.ListN.{length}
+use Rattle.std.specs.Prelude.{Ok}
 use Rattle.words.specs.Words.{place_of}
 use Rattle.decimal.specs.Text.{bytes}
 use Rattle.plan.specs.Tables.{other_codes}
 use Rattle.plan.specs.Plan.{first_codes}
 use Rattle.plan.specs.declared.Plan.{Plan}
 use Rattle.bodies.specs.Bodies.{body_of, body_tests, trailer_tests}
-use Rattle.verdicts.specs.declared.Verdict.TheVariants.{Fine}
 use Rattle.verdicts.proofs.Holding.{fine_holds, holds_fine}
 use Rattle.headers.specs.Header.{header_of}
 use Rattle.promises.specs.Rules.{TrailerRecord}
 use Rattle.promises.proofs.Parts.{text_is, header_is}
 
-pub trailer_is : (p q : Plan) (r : List ℕ) → length r ≡ 720 → ((header_of 1 (first_codes 4) 720 r ≡ Fine) × (body_of 4 0 p 0 r ≡ Fine)) ↔ TrailerRecord r q
+pub trailer_is : (p q : Plan) (r : List ℕ) → length r ≡ 720 → ((header_of 1 (first_codes 4) 720 r ≡ Ok tt) × (body_of 4 0 p 0 r ≡ Ok tt)) ↔ TrailerRecord r q
 unfolding body_of body_tests trailer_tests first_codes other_codes place_of
 trailer_is p q r size = (
   λ h.

@@ -6,6 +6,7 @@ use mathlib.Core.List.{List}
 use mathlib.Core.Logic.{◌↔◌}
 use native.Mathlib.Omega.{arith}
 use lib.ListN.{length}
+use Rattle.std.specs.Prelude.{Ok}
 use Rattle.words.specs.Words.{place_of}
 use Rattle.decimal.specs.Text.{bytes}
 use Rattle.decimal.specs.declared.Form.TheVariants.{I4}
@@ -15,14 +16,13 @@ use Rattle.plan.specs.declared.Plan.{Plan}
 use Rattle.verdicts.specs.Numbers.{number_at, numbers_tests}
 use Rattle.volume.specs.Volume.{volume_tests, volume_record}
 use Rattle.bodies.specs.Bodies.{body_of, body_tests}
-use Rattle.verdicts.specs.declared.Verdict.TheVariants.{Fine}
 use Rattle.verdicts.proofs.Holding.{fine_holds, holds_fine}
 use Rattle.headers.specs.Header.{header_of}
 use Rattle.promises.specs.Newest.{VolumeDescriptor}
 use Rattle.promises.proofs.Parts.{text_is, header_is, number_is}
 
 pub volume_is : (p q : Plan) (r : List ℕ) → length r ≡ 360
-    → ((header_of 1 (first_codes 1) 360 r ≡ Fine) × (body_of 1 0 p 0 r ≡ Fine) × (number_at r 161 I4 ≡ q.pointers)) ↔ VolumeDescriptor r q
+    → ((header_of 1 (first_codes 1) 360 r ≡ Ok tt) × (body_of 1 0 p 0 r ≡ Ok tt) × (number_at r 161 I4 ≡ q.pointers)) ↔ VolumeDescriptor r q
 unfolding body_of body_tests volume_record volume_tests numbers_tests first_codes other_codes place_of
 volume_is p q r size = (
   λ h.

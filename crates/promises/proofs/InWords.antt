@@ -1,13 +1,13 @@
 -- The promises in the words of document 01: what is shown of the walk, the line view, the row copy and the set check, said of the answer's word and
--- numbers. Each word stands for one case of its enum, so each statement is the one over the cases.
+-- numbers. Each word stands for one case of its answer, so each statement is the one over the cases.
 use Prim.Native.Nat.{ℕ, ◌+◌, ◌≤◌, ◌<◌}
-use mathlib.Core.Path.{◌≡◌, refl, ap}
+use mathlib.Core.Path.{◌≡◌, refl, ap, ap₂, ◌∙◌}
 use mathlib.Core.Logic.{◌↔◌}
 use mathlib.Core.List.{List, [], ◌∷◌, ◌++◌}
 use mathlib.Core.Bool.{Bool, true, false}
-use native.Mathlib.Omega.{arith}
 use lib.IntN.{pos}
 use lib.ListN.{length}
+use Rattle.std.specs.Prelude.{Ok, Err}
 use Rattle.words.specs.Answer.{Answer, waiting, paused, complete, refused, shown, copied, agrees}
 use Rattle.words.specs.declared.Refusal.{Refusal}
 use Rattle.plan.specs.Plan.{total_of}
@@ -18,16 +18,13 @@ use Rattle.walk.specs.State.{fresh}
 use Rattle.walk.specs.Walk.{walk_of}
 use Rattle.walk.specs.Said.{stop_as}
 use Rattle.walk.specs.declared.State.{State}
-use Rattle.lines.specs.View.{view_of}
+use Rattle.lines.specs.View.{view_of, View, shown_view}
 use Rattle.lines.specs.Said.{view_as}
-use Rattle.lines.specs.declared.View.{View}
-use Rattle.lines.specs.declared.View.TheVariants.{Shown, Wait as Wait', Refused as Refused'}
 use Rattle.copies.specs.Row.{copied_of}
 use Rattle.copies.specs.Said.{copied_as}
-use Rattle.sets.specs.Set.{set_of}
+use Rattle.sets.specs.Set.{set_of, Agreement}
 use Rattle.sets.specs.Said.{agreement_as}
-use Rattle.sets.specs.declared.Agreement.{Agreement}
-use Rattle.sets.specs.declared.Agreement.TheVariants.{Agrees, Refused as Differs}
+use Rattle.lines.specs.declared.Unshown.TheVariants as unshown
 use Rattle.promises.specs.Rules.{Kind, volume, kind_number}
 use Rattle.promises.specs.Newest.{Accepted}
 use Rattle.promises.specs.Arriving.{Own, Starts, AtRecordEnd}
@@ -43,34 +40,39 @@ use Rattle.promises.proofs.SetAgrees.{set_agrees}
 
 waiting_is : (x : Stop) → (stop_as x).word ≡ waiting → (n : ℕ) × (x ≡ Wait n)
 waiting_is (Wait n) e = (n, refl)
-waiting_is Pause e = absurd (let z : ◌≡◌ {A = ℕ} 0 1 = cc in omega arith)
-waiting_is Complete e = absurd (let z : ◌≡◌ {A = ℕ} 0 1 = cc in omega arith)
-waiting_is (Refused r) e = absurd (let z : ◌≡◌ {A = ℕ} 0 1 = cc in omega arith)
+waiting_is Pause e = absurd cc
+waiting_is Complete e = absurd cc
+waiting_is (Refused r) e = absurd cc
 
 refused_is : (x : Stop) → (stop_as x).word ≡ refused → (r : Refusal) × (x ≡ Refused r)
-refused_is (Wait n) e = absurd (let z : ◌≡◌ {A = ℕ} 0 1 = cc in omega arith)
-refused_is Pause e = absurd (let z : ◌≡◌ {A = ℕ} 0 1 = cc in omega arith)
-refused_is Complete e = absurd (let z : ◌≡◌ {A = ℕ} 0 1 = cc in omega arith)
+refused_is (Wait n) e = absurd cc
+refused_is Pause e = absurd cc
+refused_is Complete e = absurd cc
 refused_is (Refused r) e = (r, refl)
 
 complete_is : (x : Stop) → (stop_as x).word ≡ complete → x ≡ Complete
-complete_is (Wait n) e = absurd (let z : ◌≡◌ {A = ℕ} 0 1 = cc in omega arith)
-complete_is Pause e = absurd (let z : ◌≡◌ {A = ℕ} 0 1 = cc in omega arith)
+complete_is (Wait n) e = absurd cc
+complete_is Pause e = absurd cc
 complete_is Complete e = refl
-complete_is (Refused r) e = absurd (let z : ◌≡◌ {A = ℕ} 0 1 = cc in omega arith)
+complete_is (Refused r) e = absurd cc
 
 -- the answer that shows a line
 abbrev pub showing : ℕ → ℕ → ℕ → Answer
 showing start count left = record { word = shown; numbers = pos start ∷ pos count ∷ pos left ∷ [] }
 
-shown_is : (v : View) (start count left : ℕ) → view_as v ≡ showing start count left → v ≡ Shown start count left
-shown_is (Shown a b c) start count left e = let n = ap (λ (x : Answer). x.numbers) e in cc
-shown_is (Wait' n) start count left e = absurd (let w = ap (λ (x : Answer). x.word) e in let z : ◌≡◌ {A = ℕ} 0 1 = cc in omega arith)
-shown_is (Refused' r) start count left e = absurd (let w = ap (λ (x : Answer). x.word) e in let z : ◌≡◌ {A = ℕ} 0 1 = cc in omega arith)
+shown_is : (v : View) (start count left : ℕ) → view_as v ≡ showing start count left → v ≡ shown_view start count left
+shown_is (Ok x) start count left e =
+    let n = ap (λ (y : Answer). y.numbers) e in
+    let a : x.start ≡ start = cc in
+    let b : x.count ≡ count = cc in
+    let c : x.left ≡ left = cc in
+    ap (λ (i : ℕ). shown_view i x.count x.left) a ∙ ap₂ (λ (i j : ℕ). shown_view start i j) b c
+shown_is (Err (unshown.Wait n)) start count left e = absurd (let w = ap (λ (x : Answer). x.word) e in cc)
+shown_is (Err (unshown.Refused r)) start count left e = absurd (let w = ap (λ (x : Answer). x.word) e in cc)
 
-agrees_is : (a : Agreement) → (agreement_as a).word ≡ agrees → a ≡ Agrees
-agrees_is Agrees e = refl
-agrees_is (Differs r) e = absurd (let z : ◌≡◌ {A = ℕ} 0 1 = cc in omega arith)
+agrees_is : (a : Agreement) → (agreement_as a).word ≡ agrees → a ≡ Ok tt
+agrees_is (Ok u) e = refl
+agrees_is (Err r) e = absurd cc
 
 -- ---- demand 2
 

@@ -9,6 +9,7 @@ use native.Mathlib.Omega.{arith}
 use native.Mathlib.Numerals.{add-one}
 use lib.Dec.{eqb}
 use lib.ListN.{length, get_or, replicate}
+use Rattle.std.specs.Prelude.{Ok}
 use Rattle.words.specs.Tests.{within_of}
 use Rattle.words.proofs.Laws.{both_l, both_r, within_true}
 use Rattle.plan.specs.Tables.{slot_of, other_codes, rows}
@@ -18,7 +19,6 @@ use Rattle.plan.specs.declared.Due.{Due as Due'}
 use Rattle.plan.proofs.Bounds.{slot_each}
 use Rattle.plan.proofs.GoodLaws.{slot_full}
 use Rattle.bodies.specs.Bodies.{body_of}
-use Rattle.verdicts.specs.declared.Verdict.TheVariants.{Fine}
 use Rattle.headers.specs.Header.{header_of}
 use Rattle.promises.specs.Rules.{Kind, volume, leader, image, trailer, kind_number, Due, Record, Coded, Is, Line, text_record}
 use Rattle.promises.specs.Newest.{promised}
@@ -101,8 +101,8 @@ due_at kind p k = due_of (kind_number kind) p (suc k)
 -- the record there is whole, and neither its header nor its body has a fault
 pub record Judged (kind : Kind) (p : Plan) (k : ℕ) (r : List ℕ) : Type 0 where
   pub size : length r ≡ (due_at kind p k).length
-  pub head : header_of (due_at kind p k).ordinal (due_at kind p k).codes (due_at kind p k).length r ≡ Fine
-  pub body : body_of (kind_number kind) (due_at kind p k).run p (suc k) r ≡ Fine
+  pub head : header_of (due_at kind p k).ordinal (due_at kind p k).codes (due_at kind p k).length r ≡ Ok tt
+  pub body : body_of (kind_number kind) (due_at kind p k).run p (suc k) r ≡ Ok tt
 
 -- the rule of a record that is due there
 abbrev pub Rule : Due → ℕ → List ℕ → Type 0
@@ -132,15 +132,15 @@ module _ (kind : Kind) (p : Plan) (good : plan_good (kind_number kind) p ≡ tru
 
   module _ (r : List ℕ) where
     header : length r ≡ (due_at kind p k).length
-        → (header_of (due_at kind p k).ordinal (due_at kind p k).codes (due_at kind p k).length r ≡ Fine)
+        → (header_of (due_at kind p k).ordinal (due_at kind p k).codes (due_at kind p k).length r ≡ Ok tt)
         ↔ Record (suc (suc k)) (CodedBy (due_at kind p k).codes) (due_at kind p k).length r
     header e =
-        subst (λ (o : ℕ). (header_of (due_at kind p k).ordinal (due_at kind p k).codes (due_at kind p k).length r ≡ Fine)
+        subst (λ (o : ℕ). (header_of (due_at kind p k).ordinal (due_at kind p k).codes (due_at kind p k).length r ≡ Ok tt)
         ↔ Record o (CodedBy (due_at kind p k).codes) (due_at kind p k).length r) (add-one (suc k))
         (header_is (due_at kind p k).ordinal (due_at kind p k).codes (due_at kind p k).length r e)
 
     body : length r ≡ (due_at kind p k).length
-        → (body_of (kind_number kind) (due_at kind p k).run p (suc k) r ≡ Fine) ↔ holds_of kind p (due_at kind p k).run (suc k) r
+        → (body_of (kind_number kind) (due_at kind p k).run p (suc k) r ≡ Ok tt) ↔ holds_of kind p (due_at kind p k).run (suc k) r
     body e = body_is kind p (due_at kind p k).run (suc k) r (subst (Long kind (due_at kind p k).run) (sym e) long_is)
 
     judged_to : Judged kind p k r → Rule (promised_by kind p (due_at kind p k).run (due_at kind p k).length) k r

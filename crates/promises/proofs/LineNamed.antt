@@ -9,23 +9,21 @@ use native.Mathlib.Numerals.{add-one}
 use native.Mathlib.Omega.{arith}
 use lib.ListN.{length, take, drop, length-drop, take-append-drop}
 use lib.Seq.{length-take-le, take-append-le, drop-append-le, drop-drop}
+use Rattle.std.specs.Prelude.{Ok}
 use Rattle.words.specs.Words.{two_at, four_at, place_of}
 use Rattle.words.proofs.Laws.{within_true, true_within}
-use Rattle.plan.specs.Plan.{image as image', group_of, first_length, line_codes, due_of}
+use Rattle.plan.specs.Plan.{image as image', first_length, line_codes, due_of}
 use Rattle.plan.specs.Tables.{codes, sort_of as sort_of'}
 use Rattle.plan.specs.declared.Plan.{Plan}
 use Rattle.plan.specs.declared.Due.{Due}
 use Rattle.bodies.specs.Bodies.{body_of}
-use Rattle.verdicts.specs.declared.Verdict.TheVariants.{Fine}
 use Rattle.walk.specs.State.{fresh}
 use Rattle.headers.specs.Header.{header_of}
 use Rattle.walk.specs.Walk.{next_of}
 use Rattle.turns.specs.declared.Stop.{Stop}
 use Rattle.turns.specs.declared.Stop.TheVariants.{Wait as Wait', Pause, Complete, Refused as Refused'}
 use Rattle.walk.specs.declared.Walked.{Walked}
-use Rattle.lines.specs.View.{line_of, behind_first, first_of, view_of, sort_seen, shown_bytes, pixels_of}
-use Rattle.lines.specs.declared.View.{View}
-use Rattle.lines.specs.declared.View.TheVariants.{Shown}
+use Rattle.lines.specs.View.{line_of, behind_first, first_of, view_of, sort_seen, shown_bytes, pixels_of, View, shown_view}
 use Rattle.lines.proofs.ViewLaws.{Seen, line_seen, seen_line, view_line, wait≢shown, refused≢shown}
 use Rattle.plan.proofs.CodeLaws.{line_due_lem}
 use Rattle.lines.proofs.InsideLaws.{found_parts, parts_found, data_fits}
@@ -73,14 +71,14 @@ module _ (p : Plan) (k : ℕ) (bs : List ℕ) where
   line_size h = length-take-le p.l (drop (line_start p k) bs) (omega (arith, length-drop (line_start p k) bs))
 
   pub line_header : length (line_record p k bs) ≡ p.l
-      → (header_of (k + 1) (line_codes p.sort) p.l (line_record p k bs) ≡ Fine) ↔ Record (suc k) (line_due p).Codes p.l (line_record p k bs)
+      → (header_of (k + 1) (line_codes p.sort) p.l (line_record p k bs) ≡ Ok tt) ↔ Record (suc k) (line_due p).Codes p.l (line_record p k bs)
   line_header size =
-      subst (λ (o : ℕ). (header_of o (line_codes p.sort) p.l (line_record p k bs) ≡ Fine) ↔ Record (suc k) (line_due p).Codes p.l (line_record p k bs))
+      subst (λ (o : ℕ). (header_of o (line_codes p.sort) p.l (line_record p k bs) ≡ Ok tt) ↔ Record (suc k) (line_due p).Codes p.l (line_record p k bs))
       (sym (add-one k))
-      (subst (λ (x : ℕ). (header_of (suc k) (codes 50 x 18 20) p.l (line_record p k bs) ≡ Fine) ↔ Record (suc k) (line_due p).Codes p.l (line_record p k bs))
+      (subst (λ (x : ℕ). (header_of (suc k) (codes 50 x 18 20) p.l (line_record p k bs) ≡ Ok tt) ↔ Record (suc k) (line_due p).Codes p.l (line_record p k bs))
       (sym (code_same p.sort)) (header_four (suc k) 50 (sort_of p.sort).code 18 20 p.l (line_record p k bs) size))
 
-  pub line_body_lem : (body_of image' 1 p k (line_record p k bs) ≡ Fine) ↔ Line p.w k (line_record p k bs)
+  pub line_body_lem : (body_of image' 1 p k (line_record p k bs) ≡ Ok tt) ↔ Line p.w k (line_record p k bs)
   line_body_lem = body_is image p 1 k (line_record p k bs) tt
 
   seen_whole : (start count left : ℕ) → Seen p k (line_as p k) bs start count left → WholeLine bs k p
@@ -103,13 +101,13 @@ module _ (p : Plan) (k : ℕ) (bs : List ℕ) where
 
   -- what is shown of a line that is whole
   whole_shown : WholeLine bs k p
-      → line_of p k bs ≡ Shown (data_start p k (line_record p k bs)) (data_count (line_record p k bs)) (left_fill (line_record p k bs))
+      → line_of p k bs ≡ shown_view (data_start p k (line_record p k bs)) (data_count (line_record p k bs)) (left_fill (line_record p k bs))
   whole_shown t =
       seen_line p k bs _ _ _
       (subst (λ (s : Due). Seen p k s bs (data_start p k (line_record p k bs)) (data_count (line_record p k bs)) (left_fill (line_record p k bs)))
       (sym (as_due p k t.least t.most)) (whole_seen t))
 
-  shown_whole : (start count left : ℕ) → line_of p k bs ≡ Shown start count left → WholeLine bs k p × LineNumbers p k bs start count left
+  shown_whole : (start count left : ℕ) → line_of p k bs ≡ shown_view start count left → WholeLine bs k p × LineNumbers p k bs start count left
   shown_whole start count left e =
       let q = line_seen p k bs start count left e in
       let h = within_true 1 k p.n q.inside in
@@ -120,20 +118,20 @@ module _ (p : Plan) (k : ℕ) (bs : List ℕ) where
 
 -- for any plan and any bytes: a line is shown exactly where it is whole, with the numbers that the rules give it
 pub line_under : (p : Plan) (k : ℕ) (bs : List ℕ) (start count left : ℕ)
-    → (line_of p k bs ≡ Shown start count left) ↔ (WholeLine bs k p × LineNumbers p k bs start count left)
+    → (line_of p k bs ≡ shown_view start count left) ↔ (WholeLine bs k p × LineNumbers p k bs start count left)
 line_under p k bs start count left = (shown_whole p k bs start count left, back)
   where
-    back : WholeLine bs k p × LineNumbers p k bs start count left → line_of p k bs ≡ Shown start count left
+    back : WholeLine bs k p × LineNumbers p k bs start count left → line_of p k bs ≡ shown_view start count left
     back (t, (a, b, c)) = whole_shown p k bs t ∙ rw (a, b, c)
 
 -- ---- a shown line stands there
 
 -- the first record has passed
-pub shown_first : (bs : List ℕ) (k start count left : ℕ) → view_of bs k ≡ Shown start count left → (first_of bs).stop ≡ Pause
+pub shown_first : (bs : List ℕ) (k start count left : ℕ) → view_of bs k ≡ shown_view start count left → (first_of bs).stop ≡ Pause
 unfolding view_of
 shown_first bs k start count left e = go (first_of bs).stop refl e
   where
-    go : (x : Stop) → (first_of bs).stop ≡ x → behind_first x (line_of (first_of bs).state.plan k bs) ≡ Shown start count left → (first_of bs).stop ≡ Pause
+    go : (x : Stop) → (first_of bs).stop ≡ x → behind_first x (line_of (first_of bs).state.plan k bs) ≡ shown_view start count left → (first_of bs).stop ≡ Pause
     go (Wait' n) q e = absurd (wait≢shown _ _ _ _ e)
     go Pause q e = q
     go Complete q e = absurd (open_never_complete 1 (fresh image') bs q)
@@ -143,7 +141,7 @@ pub first_there : (bs : List ℕ) → (first_of bs).stop ≡ Pause → ImageDesc
 unfolding first_length
 first_there bs e = plan_named image bs false 1 (λ z. let m = pause_counted 1 (fresh image') bs false e in omega arith)
 
-shown_to : (bs : List ℕ) (k start count left : ℕ) → view_of bs k ≡ Shown start count left → LineShown bs k start count left
+shown_to : (bs : List ℕ) (k start count left : ℕ) → view_of bs k ≡ shown_view start count left → LineShown bs k start count left
 shown_to bs k start count left e =
     let p = (first_of bs).state.plan in
     let (t, a) = (line_under p k bs start count left).0 (view_line bs k start count left e) in
@@ -174,12 +172,12 @@ module _ (bs : List ℕ) (k : ℕ) (p q : Plan) (same : Same image p q) where
         holds = subst (λ (w : ℕ). Line w k (line_record p k bs)) (sym same.2) (subst (Line q.w k) r t.holds);
       }
 
-  same_shown : Shown (data_start p k (line_record p k bs)) (data_count (line_record p k bs)) (left_fill (line_record p k bs))
-      ≡ Shown (data_start q k (line_record q k bs)) (data_count (line_record q k bs)) (left_fill (line_record q k bs))
+  same_shown : shown_view (data_start p k (line_record p k bs)) (data_count (line_record p k bs)) (left_fill (line_record p k bs))
+      ≡ shown_view (data_start q k (line_record q k bs)) (data_count (line_record q k bs)) (left_fill (line_record q k bs))
   same_shown = rw (same_record, same_start, same_before, same.5)
 
 pub stands_shown : (bs : List ℕ) (k : ℕ) (q : Plan) → Stands bs k q
-    → view_of bs k ≡ Shown (data_start q k (line_record q k bs)) (data_count (line_record q k bs)) (left_fill (line_record q k bs))
+    → view_of bs k ≡ shown_view (data_start q k (line_record q k bs)) (data_count (line_record q k bs)) (left_fill (line_record q k bs))
 unfolding view_of first_length
 stands_shown bs k q t =
     let p = (next_of (fresh image') bs).plan in
@@ -189,10 +187,10 @@ stands_shown bs k q t =
     ∙ same_shown bs k p q same
 
 -- for any bytes: a line is shown exactly where it stands there, with the numbers that the rules give it
-pub line_named : (bs : List ℕ) (k start count left : ℕ) → (view_of bs k ≡ Shown start count left) ↔ LineShown bs k start count left
+pub line_named : (bs : List ℕ) (k start count left : ℕ) → (view_of bs k ≡ shown_view start count left) ↔ LineShown bs k start count left
 line_named bs k start count left = (shown_to bs k start count left, back)
   where
-    back : LineShown bs k start count left → view_of bs k ≡ Shown start count left
+    back : LineShown bs k start count left → view_of bs k ≡ shown_view start count left
     back (p, t, (a, b, c)) = stands_shown bs k p t ∙ rw (a, b, c)
 
 -- ---- and then exactly its data pixels are handed out
@@ -215,7 +213,7 @@ module _ (bs : List ℕ) (k : ℕ) (p : Plan) (paired : p.d ≡ bytes_of p * p.w
       t.holds.fills
 
   pub whole_pixels : shown_bytes (bytes_of p)
-      (Shown (data_start p k (line_record p k bs)) (data_count (line_record p k bs)) (left_fill (line_record p k bs))) bs
+      (shown_view (data_start p k (line_record p k bs)) (data_count (line_record p k bs)) (left_fill (line_record p k bs))) bs
       ≡ data_pixels p (line_record p k bs)
   whole_pixels =
       let r = line_record p k bs in

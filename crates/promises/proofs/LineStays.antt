@@ -9,6 +9,7 @@ use lib.Dec.{ltb}
 use lib.ListN.{length, take, drop, length-append, length-drop}
 use lib.Seq.{take-append-le, drop-append-le}
 use borrow.Author.Tests.{ltb-true, ltb-false, ne_eqb}
+use Rattle.std.specs.Prelude.{Ok, Err}
 use Rattle.words.specs.Tests.{pick, within_of}
 use Rattle.words.proofs.Laws.{cases}
 use Rattle.plan.specs.Plan.{image as image', group_of, due_of}
@@ -19,13 +20,11 @@ use Rattle.turns.specs.declared.Stop.{Stop}
 use Rattle.turns.specs.declared.Stop.TheVariants.{Wait as Wait', Pause, Complete, Refused as Refused'}
 use Rattle.walk.specs.declared.State.{State}
 use Rattle.walk.specs.declared.Walked.{Walked}
-use Rattle.lines.specs.View.{found_in, on_verdict, shown_of, line_of, behind_first, first_of, view_of, sort_seen, shown_bytes, pixels_of}
+use Rattle.lines.specs.View.{found_in, on_verdict, shown_of, line_of, behind_first, first_of, view_of, sort_seen, shown_bytes, pixels_of, View, shown_view}
 use Rattle.copies.specs.Row.{samples, copied_by, row_by, copied_of, row_of}
-use Rattle.lines.specs.declared.View.{View}
-use Rattle.lines.specs.declared.View.TheVariants.{Shown, Wait, Refused}
-use Rattle.copies.specs.declared.Copied.TheVariants.{Wait as Wait''}
 use Rattle.lines.proofs.ViewLaws.{line_in, line_out, at_short, at_whole}
 use Rattle.lines.proofs.InsideLaws.{line_within, shown_within}
+use Rattle.lines.specs.declared.Unshown.TheVariants as unshown
 use Rattle.promises.specs.Rules.{image}
 use Rattle.promises.proofs.Accepts.{good_fresh}
 use Rattle.promises.proofs.Counted.{open_never_complete, pause_counted}
@@ -48,7 +47,7 @@ first_stays bs ys e =
     ∙ sym (one_turn st bs false (good_fresh image) t)
 
 -- the line under any plan, whatever it was, if it was not a wait
-pub line_held : (p : Plan) (k : ℕ) (bs ys : List ℕ) → ((n : ℕ) → line_of p k bs ≡ Wait n → ⊥) → line_of p k (bs ++ ys) ≡ line_of p k bs
+pub line_held : (p : Plan) (k : ℕ) (bs ys : List ℕ) → ((n : ℕ) → line_of p k bs ≡ Err (unshown.Wait n) → ⊥) → line_of p k (bs ++ ys) ≡ line_of p k bs
 line_held p k bs ys settled = ⊎_elim inside (λ o. line_out p k (bs ++ ys) o ∙ sym (line_out p k bs o)) (cases (within_of 1 k p.n))
   where
     whole : within_of 1 k p.n ≡ true → (due_of image' p k).start + (due_of image' p k).length ≤ length bs
@@ -66,7 +65,7 @@ line_held p k bs ys settled = ⊎_elim inside (λ o. line_out p k (bs ++ ys) o �
         ∙ sym (line_in p k bs i ∙ at_whole p k x bs h)
 
 -- the view: whatever it was, if it was not a wait
-pub line_stays : (bs ys : List ℕ) (k : ℕ) → ((n : ℕ) → view_of bs k ≡ Wait n → ⊥) → view_of (bs ++ ys) k ≡ view_of bs k
+pub line_stays : (bs ys : List ℕ) (k : ℕ) → ((n : ℕ) → view_of bs k ≡ Err (unshown.Wait n) → ⊥) → view_of (bs ++ ys) k ≡ view_of bs k
 unfolding view_of
 line_stays bs ys k settled = go (first_of bs).stop refl
   where
@@ -90,21 +89,20 @@ line_stays bs ys k settled = go (first_of bs).stop refl
         ∙ sym (by-stop (Refused' r) (line_of (first_of bs).state.plan k bs) e)
 
 -- the bytes that a view shows, where they are held
-held_bytes : (g : ℕ) (v : View) (bs ys : List ℕ) → ((start count left : ℕ) → v ≡ Shown start count left → start + g * count ≤ length bs)
+held_bytes : (g : ℕ) (v : View) (bs ys : List ℕ) → ((start count left : ℕ) → v ≡ shown_view start count left → start + g * count ≤ length bs)
     → shown_bytes g v (bs ++ ys) ≡ shown_bytes g v bs
-held_bytes g (Shown start count left) bs ys h = part_stays start (g * count) bs ys (h start count left refl)
-held_bytes g (Wait n) bs ys h = refl
-held_bytes g (Refused r) bs ys h = refl
+held_bytes g (Ok x) bs ys h = part_stays x.start (g * x.count) bs ys (h x.start x.count x.left refl)
+held_bytes g (Err x) bs ys h = refl
 
 -- under any plan whose pixels fill d, where d and the suffix fit L
-pub line_pixels_stay : (p : Plan) → p.d ≡ group_of p * p.w → p.d + p.s ≤ p.l → (bs ys : List ℕ) (k : ℕ) → ((n : ℕ) → line_of p k bs ≡ Wait n → ⊥)
+pub line_pixels_stay : (p : Plan) → p.d ≡ group_of p * p.w → p.d + p.s ≤ p.l → (bs ys : List ℕ) (k : ℕ) → ((n : ℕ) → line_of p k bs ≡ Err (unshown.Wait n) → ⊥)
     → shown_bytes (group_of p) (line_of p k (bs ++ ys)) (bs ++ ys) ≡ shown_bytes (group_of p) (line_of p k bs) bs
 line_pixels_stay p paired room bs ys k settled =
     ap (λ (v : View). shown_bytes (group_of p) v (bs ++ ys)) (line_held p k bs ys settled)
     ∙ held_bytes (group_of p) (line_of p k bs) bs ys (λ start count left e. line_within p paired room k bs start count left e)
 
 -- a view that is no wait has its sort for good: a first record that has passed stays, and one that is refused names none
-pub sort_stays : (bs ys : List ℕ) (k : ℕ) → ((n : ℕ) → view_of bs k ≡ Wait n → ⊥) → sort_seen (bs ++ ys) ≡ sort_seen bs
+pub sort_stays : (bs ys : List ℕ) (k : ℕ) → ((n : ℕ) → view_of bs k ≡ Err (unshown.Wait n) → ⊥) → sort_seen (bs ++ ys) ≡ sort_seen bs
 unfolding view_of sort_seen
 sort_stays bs ys k settled = go (first_of bs).stop refl
   where
@@ -119,7 +117,7 @@ pub shown_stays : (bs ys : List ℕ) (k : ℕ) (v : View) → view_of bs k ≡ v
     → shown_bytes (sort_of (sort_seen bs)).group v (bs ++ ys) ≡ shown_bytes (sort_of (sort_seen bs)).group v bs
 shown_stays bs ys k v e = held_bytes (sort_of (sort_seen bs)).group v bs ys (λ start count left q. shown_within bs k start count left (e ∙ q))
 
-pub pixels_stay : (bs ys : List ℕ) (k : ℕ) → ((n : ℕ) → view_of bs k ≡ Wait n → ⊥) → pixels_of (bs ++ ys) k ≡ pixels_of bs k
+pub pixels_stay : (bs ys : List ℕ) (k : ℕ) → ((n : ℕ) → view_of bs k ≡ Err (unshown.Wait n) → ⊥) → pixels_of (bs ++ ys) k ≡ pixels_of bs k
 unfolding pixels_of
 pixels_stay bs ys k settled =
     ap₂ (λ (i : ℕ) (v : View). shown_bytes (sort_of i).group v (bs ++ ys)) (sort_stays bs ys k settled) (line_stays bs ys k settled)
@@ -129,19 +127,18 @@ pixels_stay bs ys k settled =
 row_held : (bs ys : List ℕ) (k sort : ℕ) (row : List ℕ) (v : View) → sort_seen bs ≡ sort → view_of bs k ≡ v →
     row_by v sort (bs ++ ys) row ≡ row_by v sort bs row
 unfolding sort_of
-row_held bs ys k zero row (Shown start count left) s e =
-    ap (λ (px : List ℕ). pick (ltb (length row) count) row (samples count px ++ drop count row))
-    (subst (λ (i : ℕ). shown_bytes (sort_of i).group (Shown start count left) (bs ++ ys) ≡ shown_bytes (sort_of i).group (Shown start count left) bs) s
-    (shown_stays bs ys k (Shown start count left) e))
-row_held bs ys k (suc i) row (Shown start count left) s e = simp (ne_eqb (suc i) 0 (λ e. omega arith))
-row_held bs ys k sort row (Wait n) s e = refl
-row_held bs ys k sort row (Refused r) s e = refl
+row_held bs ys k zero row (Ok x) s e =
+    ap (λ (px : List ℕ). pick (ltb (length row) x.count) row (samples x.count px ++ drop x.count row))
+    (subst (λ (i : ℕ). shown_bytes (sort_of i).group (Ok x) (bs ++ ys) ≡ shown_bytes (sort_of i).group (Ok x) bs) s
+    (shown_stays bs ys k (Ok x) e))
+row_held bs ys k (suc i) row (Ok x) s e = simp (ne_eqb (suc i) 0 (λ e. omega arith))
+row_held bs ys k sort row (Err x) s e = refl
 
-pub copy_stays : (bs ys : List ℕ) (k : ℕ) (row : List ℕ) → ((n : ℕ) → copied_of bs k (length row) ≡ Wait'' n → ⊥)
+pub copy_stays : (bs ys : List ℕ) (k : ℕ) (row : List ℕ) → ((n : ℕ) → copied_of bs k (length row) ≡ Err (unshown.Wait n) → ⊥)
     → (copied_of (bs ++ ys) k (length row) ≡ copied_of bs k (length row)) × (row_of (bs ++ ys) k row ≡ row_of bs k row)
 unfolding copied_of row_of
 copy_stays bs ys k row settled =
-    let open-view : (n : ℕ) → view_of bs k ≡ Wait n → ⊥ = λ n e. settled n (ap (λ (v : View). copied_by v (sort_seen bs) (length row)) e) in
+    let open-view : (n : ℕ) → view_of bs k ≡ Err (unshown.Wait n) → ⊥ = λ n e. settled n (ap (λ (v : View). copied_by v (sort_seen bs) (length row)) e) in
     let h = line_stays bs ys k open-view in
     let s = sort_stays bs ys k open-view in (
       ap₂ (λ (i : ℕ) (v : View). copied_by v i (length row)) s h,

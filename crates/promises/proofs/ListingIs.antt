@@ -10,23 +10,20 @@ use lib.Dec.{eqb, ltb, leb}
 use lib.ListN.{length, take, drop, length-append, drop_of_length-le}
 use lib.Seq.{take_at}
 use borrow.Author.Tests.{eqb-false, leb-true, leb-false, ltb-true, lt-ltb, ne_eqb}
+use Rattle.std.specs.Prelude.{Ok, Err}
 use Rattle.words.specs.Tests.{pick}
 use Rattle.words.proofs.Laws.{cases}
 use Rattle.plan.specs.Plan.{image as image', first_length, total_of, spot_of, due_of}
 use Rattle.plan.specs.declared.Plan.{Plan}
 use Rattle.plan.specs.declared.Spot.{Spot}
 use Rattle.bodies.specs.Bodies.{body_of}
-use Rattle.verdicts.specs.declared.Verdict.{Verdict}
-use Rattle.verdicts.specs.declared.Verdict.TheVariants.{Fine, Fault}
 use Rattle.walk.specs.State.{fresh, good_state, next_due}
 use Rattle.headers.specs.Header.{header_of}
-use Rattle.turns.specs.Turn.{refused_at, ended_of, short_of, on_fine, judge_of}
+use Rattle.turns.specs.Turn.{refused_at, ended_of, short_of, on_fine, judge_of, Turn}
 use Rattle.walk.specs.Walk.{turn_of, next_of, walk_of, more}
 use Rattle.walk.specs.declared.State.{State}
 use Rattle.turns.specs.declared.Stop.{Stop}
 use Rattle.turns.specs.declared.Stop.TheVariants.{Wait, Pause, Complete as Complete', Refused as Refused'}
-use Rattle.turns.specs.declared.Turn.{Turn}
-use Rattle.turns.specs.declared.Turn.TheVariants.{Pass, Halt}
 use Rattle.walk.specs.declared.Walked.{Walked}
 use Rattle.walk.proofs.KeptLaws.{next_kind}
 use Rattle.walk.proofs.LoopLaws.{walk_pause, walk_halt, walk_pass}
@@ -38,11 +35,12 @@ use Rattle.listing.specs.Rows.{longest, passed_row, wanted, say_of, too_long, to
 use Rattle.rows.specs.declared.Row.{Row}
 use Rattle.rows.specs.declared.Row.TheVariants.{TooLong, Refused}
 use Rattle.words.specs.declared.Refusal.{Refusal}
+use Rattle.verdicts.specs.Tests.{Verdict}
 use Rattle.promises.specs.Demands.{planned_total}
 use Rattle.listing.specs.declared.Say.TheVariants.{Want, Next, Last}
 use Rattle.listing.specs.declared.Told.{Told}
 use Rattle.listing.proofs.TurnLaws.{told_long, told_is}
-use Rattle.promises.specs.Listing.{Lists, piece, ended, next, last, closing, closing_by, closing_row, rows_by, rows_of}
+use Rattle.promises.specs.Listing.{Lists, piece, ended, next, last, closing, closing_by, closing_row, rows_of}
 use Rattle.promises.specs.Rules.{image}
 use Rattle.promises.proofs.Accepts.{good_fresh}
 use Rattle.promises.proofs.Counted.{open_never_complete, closed_never_waits}
@@ -81,7 +79,7 @@ pub data Waiting (st : State) (held : List ℕ) (n : ℕ) : Type 0 where
 waited : {m n : ℕ} → Wait m ≡ Wait n → m ≡ n
 waited e = cc
 
-waits : (st : State) (held : List ℕ) (n : ℕ) → turn_of st held false ≡ Halt (Wait n) → Waiting st held n
+waits : (st : State) (held : List ℕ) (n : ℕ) → turn_of st held false ≡ Err (Wait n) → Waiting st held n
 unfolding judge_of short_of
 waits st held n e =
     go (leb (total_of st.kind st.plan) st.passed) refl (ltb (length held) 12) refl
@@ -90,21 +88,21 @@ waits st held n e =
   where
     go : (x : Bool) → leb (total_of st.kind st.plan) st.passed ≡ x → (y : Bool) → ltb (length held) 12 ≡ y → (h : Verdict)
         → (z : Bool) → ltb (length held) (next_due st).length ≡ z → (t : Verdict)
-        → pick x (Halt (ended_of (st.passed + 1) (next_due st).start (length held) false))
-        (pick y (Halt (pick false (refused_at (st.passed + 1) (next_due st).start 2 0) (Wait (12 - length held))))
+        → pick x (Err (ended_of (st.passed + 1) (next_due st).start (length held) false))
+        (pick y (Err (pick false (refused_at (st.passed + 1) (next_due st).start 2 0) (Wait (12 - length held))))
         (on_fine h (st.passed + 1) (next_due st).start
-        (pick z (Halt (pick false (refused_at (st.passed + 1) (next_due st).start 2 0) (Wait ((next_due st).length - length held))))
-        (on_fine t (st.passed + 1) (next_due st).start Pass)))) ≡ Halt (Wait n)
+        (pick z (Err (pick false (refused_at (st.passed + 1) (next_due st).start 2 0) (Wait ((next_due st).length - length held))))
+        (on_fine t (st.passed + 1) (next_due st).start (Ok tt))))) ≡ Err (Wait n)
         → Waiting st held n
     go true ex y ey h z ez t e = behind (leb-true _ _ ex)
     go false ex true ey h z ez t e = let l : length held < 12 = ltb-true _ _ ey in
         let m : 12 - length held ≡ n = waited (halt_same e) in header_rest (leb-false _ _ ex) (omega arith) (omega arith)
-    go false ex false ey (Fault m a) z ez t e = absurd (wait≢refused (sym (halt_same e)))
-    go false ex false ey Fine true ez t e =
+    go false ex false ey (Err r) z ez t e = absurd (wait≢refused (sym (halt_same e)))
+    go false ex false ey (Ok u) true ez t e =
         let l : length held < (next_due st).length = ltb-true _ _ ez in
         let m : (next_due st).length - length held ≡ n = waited (halt_same e) in record_rest (leb-false _ _ ex) (omega arith) (omega arith)
-    go false ex false ey Fine false ez (Fault m a) e = absurd (wait≢refused (sym (halt_same e)))
-    go false ex false ey Fine false ez Fine e = absurd (pass≢halt e)
+    go false ex false ey (Ok u) false ez (Err r) e = absurd (wait≢refused (sym (halt_same e)))
+    go false ex false ey (Ok u) false ez (Ok v) e = absurd (pass≢halt e)
 
 -- ---- what a turn says, back to what the walk by one record did
 
@@ -119,13 +117,13 @@ Closes st bs row =
     → (row ≡ closing_row (walk_of b st bs true)) ⊎ ((row ≡ TooLong) × (longest < (walk_of b st bs true).state.plan.l))
 
 want≢next : {m : ℕ} {r : Row} → Want m ≡ Next r → ⊥
-want≢next e = let z : ◌≡◌ {A = ℕ} 0 1 = cc in omega arith
+want≢next e = cc
 
 pub want≢last : {m : ℕ} {r : Row} → Want m ≡ Last r → ⊥
-want≢last e = let z : ◌≡◌ {A = ℕ} 0 1 = cc in omega arith
+want≢last e = cc
 
 pub next≢last : {r q : Row} → Next r ≡ Last q → ⊥
-next≢last e = let z : ◌≡◌ {A = ℕ} 0 1 = cc in omega arith
+next≢last e = cc
 
 wanted_same : {m n : ℕ} → Want m ≡ Want n → m ≡ n
 wanted_same e = cc
@@ -174,19 +172,19 @@ module _ (st : State) (held : List ℕ) (after : State) where
 
 module _ (st : State) (held : List ℕ) (good : good_state st ≡ true) where
   -- a wait of the walk by one record is a turn's
-  pub turn_waits : (n : ℕ) → (walk_of 1 st held false).stop ≡ Wait n → turn_of st held false ≡ Halt (Wait n)
+  pub turn_waits : (n : ℕ) → (walk_of 1 st held false).stop ≡ Wait n → turn_of st held false ≡ Err (Wait n)
   turn_waits n e = go (turn_of st held false) refl
     where
-      go : (t : Turn) → turn_of st held false ≡ t → turn_of st held false ≡ Halt (Wait n)
-      go Pass q = absurd (wait≢pause (sym e ∙ ap (λ (w : Walked). w.stop) (one_turn st held false good q)))
-      go (Halt x) q = q ∙ ap Halt (sym (ap (λ (w : Walked). w.stop) (walk_halt st held false 0 x good q)) ∙ e)
+      go : (t : Turn) → turn_of st held false ≡ t → turn_of st held false ≡ Err (Wait n)
+      go (Ok u) q = absurd (wait≢pause (sym e ∙ ap (λ (w : Walked). w.stop) (one_turn st held false good q)))
+      go (Err x) q = q ∙ ap Err (sym (ap (λ (w : Walked). w.stop) (walk_halt st held false 0 x good q)) ∙ e)
 
-  pub turn_passes : (walk_of 1 st held false).stop ≡ Pause → turn_of st held false ≡ Pass
+  pub turn_passes : (walk_of 1 st held false).stop ≡ Pause → turn_of st held false ≡ Ok tt
   turn_passes e = go (turn_of st held false) refl
     where
-      go : (t : Turn) → turn_of st held false ≡ t → turn_of st held false ≡ Pass
-      go Pass q = q
-      go (Halt x) q = absurd (never_pause st held false x q (sym (ap (λ (w : Walked). w.stop) (walk_halt st held false 0 x good q)) ∙ e))
+      go : (t : Turn) → turn_of st held false ≡ t → turn_of st held false ≡ Ok tt
+      go (Ok u) q = q
+      go (Err x) q = absurd (never_pause st held false x q (sym (ap (λ (w : Walked). w.stop) (walk_halt st held false 0 x good q)) ∙ e))
 
   -- what is wanted fits the next record
   pub want_fits : st.kind ≡ image' → (n : ℕ) → (walk_of 1 st held false).stop ≡ Wait n → (p : List ℕ) → length p ≤ wanted n → Room st (held ++ p)
@@ -251,7 +249,7 @@ closes_refused st held rest row g s e b h = go (walk_of 1 st held false).stop re
         ∙ ap closing_row (sym v))
 
 -- a record that passes is all that is held; the walk goes on behind it
-closes_next : (st : State) (held rest : List ℕ) (row : Row) → good_state st ≡ true → turn_of st held false ≡ Pass → Room st held
+closes_next : (st : State) (held rest : List ℕ) (row : Row) → good_state st ≡ true → turn_of st held false ≡ Ok tt → Room st held
     → Closes (next_of st held) ([] ++ rest) row → Closes st (held ++ rest) row
 closes_next st held rest row g t room c b h =
     let (d, m) = budget_some b st (held ++ rest) g h in
@@ -319,11 +317,11 @@ module _ (st : State) (bs : List ℕ) (d : ℕ) where
   rows_long e = simp e
 
   module _ (short : too_long st ≡ false) where
-    pub rows_halt : (x : Stop) → turn_of st bs true ≡ Halt x → rows_of (suc d) st bs ≡ closing_by st x ∷ []
+    pub rows_halt : (x : Stop) → turn_of st bs true ≡ Err x → rows_of (suc d) st bs ≡ closing_by st x ∷ []
     unfolding rows_of
     rows_halt x t = simp (short, t)
 
-    pub rows_pass : turn_of st bs true ≡ Pass
+    pub rows_pass : turn_of st bs true ≡ Ok tt
         → rows_of (suc d) st bs ≡ passed_row st (take (next_due st).length bs) (next_of st bs) ∷ rows_of d (next_of st bs) (drop (next_due st).length bs)
     unfolding rows_of
     rows_pass t = simp (short, t)
@@ -344,14 +342,14 @@ next_same e = cc
 
 module _ (st : State) (held : List ℕ) (g : good_state st ≡ true) (short : too_long st ≡ false) where
   -- a walk by one record that neither pauses nor waits is a turn that halts
-  halted : (c : Bool) (x : Stop) → (walk_of 1 st held c).stop ≡ x → x ≢ Pause → (turn_of st held c ≡ Halt x) × ((walk_of 1 st held c).state ≡ st)
+  halted : (c : Bool) (x : Stop) → (walk_of 1 st held c).stop ≡ x → x ≢ Pause → (turn_of st held c ≡ Err x) × ((walk_of 1 st held c).state ≡ st)
   halted c x e n = go (turn_of st held c) refl
     where
-      go : (t : Turn) → turn_of st held c ≡ t → (turn_of st held c ≡ Halt x) × ((walk_of 1 st held c).state ≡ st)
-      go Pass q = absurd (n (sym e ∙ ap (λ (w : Walked). w.stop) (one_turn st held c g q)))
-      go (Halt y) q =
+      go : (t : Turn) → turn_of st held c ≡ t → (turn_of st held c ≡ Err x) × ((walk_of 1 st held c).state ≡ st)
+      go (Ok u) q = absurd (n (sym e ∙ ap (λ (w : Walked). w.stop) (one_turn st held c g q)))
+      go (Err y) q =
           let w = walk_halt st held c 0 y g q in
-          (q ∙ ap Halt (sym (ap (λ (z : Walked). z.stop) w) ∙ e), ap (λ (z : Walked). z.state) w)
+          (q ∙ ap Err (sym (ap (λ (z : Walked). z.stop) w) ∙ e), ap (λ (z : Walked). z.state) w)
 
   -- the input has ended
   rows_ended : (row : Row) → (told_of st held true).say ≡ Last row → RowsAre st (held ++ []) (row ∷ [])
@@ -382,7 +380,7 @@ module _ (st : State) (held : List ℕ) (g : good_state st ≡ true) (short : to
           by_turn st (held ++ rest) (row ∷ []) g (λ d h. ap (λ (x : Row). x ∷ []) o ∙ sym (rows_halt st (held ++ rest) d short (Refused' r) s))
 
   -- a record that passes is all that is held
-  rows_next : (rest : List ℕ) (r : Row) (rows : List Row) → (told_of st held false).say ≡ Next r → turn_of st held false ≡ Pass → Room st held
+  rows_next : (rest : List ℕ) (r : Row) (rows : List Row) → (told_of st held false).say ≡ Next r → turn_of st held false ≡ Ok tt → Room st held
       → RowsAre (next_of st held) ([] ++ rest) rows → RowsAre st (held ++ rest) (r ∷ rows)
   rows_next rest r rows e t room after =
       by_turn st (held ++ rest) (r ∷ rows) g (λ d h.
@@ -454,7 +452,7 @@ listing_once {input} l l' =
     listing_rows l b h ∙ sym (listing_rows l' b h)
 
 -- a refusal in the first record is its row alone
-pub refused_alone : {input : List ℕ} {rows : List Row} → Lists (fresh image') [] input rows → (r : Refusal) → turn_of (fresh image') input true ≡ Halt
+pub refused_alone : {input : List ℕ} {rows : List Row} → Lists (fresh image') [] input rows → (r : Refusal) → turn_of (fresh image') input true ≡ Err
     (Refused' r)
     → rows ≡ Refused r ∷ []
 unfolding too_long
@@ -468,8 +466,8 @@ refused_alone {input} l r t =
 not_long : (st : State) (x : Stop) → x ≢ Pause → ((n : ℕ) → x ≡ Wait n → ⊥) → closing_by st x ≡ TooLong → ⊥
 not_long st (Wait n) p w e = w n refl
 not_long st Pause p w e = p refl
-not_long st Complete' p w e = let z : ◌≡◌ {A = ℕ} 0 1 = cc in omega arith
-not_long st (Refused' r) p w e = let z : ◌≡◌ {A = ℕ} 0 1 = cc in omega arith
+not_long st Complete' p w e = cc
+not_long st (Refused' r) p w e = cc
 
 -- a state behind its first record, whose lines are too long
 is_long : (st : State) → (st.passed ≡ 0 → ⊥) → longest < st.plan.l → too_long st ≡ true
@@ -490,9 +488,9 @@ long_rows : (input : List ℕ) (d : ℕ) → (walk_of (suc d) (fresh image') inp
 long_rows input d h l = go (turn_of (fresh image') input true) refl
   where
     go : (t : Turn) → turn_of (fresh image') input true ≡ t → closing (rows_of (suc d) (fresh image') input) ≡ TooLong
-    go (Halt x) t =
+    go (Err x) t =
         absurd (let w = subst (λ (y : Walked). longest < y.state.plan.l) (walk_halt (fresh image') input true d x (good_fresh image) t) l in omega arith)
-    go Pass t =
+    go (Ok u) t =
         let after = next_of (fresh image') input in
         let rest = drop (next_due (fresh image')).length input in
         let v = walk_pass (fresh image') input true d (good_fresh image) t in

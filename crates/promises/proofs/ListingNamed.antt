@@ -2,7 +2,7 @@
 -- induction over the rows, record by record.
 use Prim.Native.Nat.{ℕ, zero, suc, ◌+◌, ◌-◌, ◌*◌, ◌≤◌, ◌<◌}
 use mathlib.Core.Path.{◌≡◌, refl, sym, ap, ◌∙◌, subst}
-use mathlib.Core.Bool.{Bool, true, false}
+use mathlib.Core.Bool.{true, false}
 use mathlib.Core.Logic.{◌≢◌, ⊎_elim}
 use mathlib.Core.List.{List, [], ◌∷◌, ◌++◌}
 use native.Mathlib.Omega.{arith}
@@ -11,6 +11,7 @@ use lib.Dec.{eqb, leb, ltb}
 use lib.ListN.{length, take, drop, length-drop}
 use lib.Seq.{drop-drop}
 use borrow.Author.Tests.{eqb-true, eqb-false, leb-false, ltb-false, ne_eqb}
+use Rattle.std.specs.Prelude.{Ok, Err}
 use Rattle.words.specs.Words.{four_at, place_of}
 use Rattle.words.proofs.Laws.{cases}
 use Rattle.plan.specs.Plan.{image as image', first_length, total_of, spot_of, line_codes, plan_good}
@@ -19,12 +20,9 @@ use Rattle.plan.specs.declared.Due.{Due}
 use Rattle.plan.proofs.CodeLaws.{line_due_lem, image_total}
 use Rattle.plan.proofs.GoodLaws.{image_room}
 use Rattle.bodies.specs.Bodies.{body_of}
-use Rattle.verdicts.specs.declared.Verdict.TheVariants.{Fine}
 use Rattle.headers.specs.Header.{header_of}
-use Rattle.turns.specs.declared.Stop.{Stop}
+use Rattle.turns.specs.Turn.{Turn}
 use Rattle.turns.specs.declared.Stop.TheVariants.{Pause}
-use Rattle.turns.specs.declared.Turn.{Turn}
-use Rattle.turns.specs.declared.Turn.TheVariants.{Pass, Halt}
 use Rattle.turns.proofs.TurnLaws.{Parts, pass_parts}
 use Rattle.walk.specs.State.{fresh, good_state, next_due}
 use Rattle.walk.specs.Walk.{turn_of, next_of, walk_of}
@@ -39,11 +37,11 @@ use Rattle.rows.specs.declared.Row.TheVariants.{Image, Line, TooLong}
 use Rattle.promises.specs.Rules.{image}
 use Rattle.promises.specs.Newest.{ImageDescriptor}
 use Rattle.promises.specs.Demands.{planned_total}
-use Rattle.promises.specs.Shown.{WholeLine, line_start, line_record, left_fill, data_count}
+use Rattle.promises.specs.Shown.{WholeLine, line_start, line_record}
 use Rattle.promises.specs.Listing.{Lists, closing_by, rows_of, line_row, line_rows, Named, alone, lines}
 use Rattle.promises.proofs.Accepts.{good_fresh}
 use Rattle.promises.proofs.LineNamed.{line_size, line_header, line_body_lem}
-use Rattle.promises.proofs.ListingIs.{rows_long, rows_halt, rows_pass, fresh_short, budget_some, listing_rows}
+use Rattle.promises.proofs.ListingIs.{rows_long, rows_halt, rows_pass, fresh_short, listing_rows}
 use Rattle.promises.proofs.Parts.{header_take}
 use Rattle.promises.proofs.PlanNamed.{first_passed, enough_planned}
 
@@ -66,7 +64,7 @@ module _ (p : Plan) (good : plan_good image' p ≡ true) (input : List ℕ) wher
   same_record k = ap (λ (i : ℕ). take p.l (drop (720 + i * p.l) input)) (let e : k ≡ suc k - 1 = omega arith in e)
 
   -- a line that passes is whole there, and meets its rules
-  passes_whole : (k : ℕ) → k < p.n → turn_of (at p (suc k)) (from k) true ≡ Pass → WholeLine input (suc k) p
+  passes_whole : (k : ℕ) → k < p.n → turn_of (at p (suc k)) (from k) true ≡ Ok tt → WholeLine input (suc k) p
   passes_whole k h t =
       let q = subst (λ (x : Due). Parts (leb (total_of image' p) (suc k)) (ltb (length (from k)) 12) (ltb (length (from k)) x.length)
       (header_of x.ordinal x.codes x.length (from k)) (body_of image' x.run p (suc k) (take x.length (from k))))
@@ -77,10 +75,10 @@ module _ (p : Plan) (good : plan_good image' p ≡ true) (input : List ℕ) wher
       subst (λ (i : ℕ). 720 + i * p.l + p.l ≤ length input) (let e : k ≡ suc k - 1 = omega arith in e)
       (omega (arith, length-drop (720 + k * p.l) input, a)) in
       let size = line_size p (suc k) input held in
-      let head : header_of (suc k + 1) (line_codes p.sort) p.l (line_record p (suc k) input) ≡ Fine =
+      let head : header_of (suc k + 1) (line_codes p.sort) p.l (line_record p (suc k) input) ≡ Ok tt =
       ap (λ (r : List ℕ). header_of (suc k + 1) (line_codes p.sort) p.l r) (sym (same_record k))
       ∙ header_take (suc k + 1) (line_codes p.sort) p.l p.l (from k) (omega (arith, a)) ∙ q.head in
-      let body : body_of image' 1 p (suc k) (line_record p (suc k) input) ≡ Fine =
+      let body : body_of image' 1 p (suc k) (line_record p (suc k) input) ≡ Ok tt =
       ap (λ (r : List ℕ). body_of image' 1 p (suc k) r) (sym (same_record k)) ∙ q.body in
       record { least = omega arith; most = omega arith; is = (line_header p (suc k) input size).0 head; holds = (line_body_lem p (suc k) input).0 body }
 
@@ -101,9 +99,9 @@ module _ (p : Plan) (good : plan_good image' p ≡ true) (input : List ℕ) wher
           → (good_state (at p (suc (suc k))) ≡ true → (walk_of b (at p (suc (suc k))) (from (suc k)) true).stop ≢ Pause
           → From (suc k) (rows_of b (at p (suc (suc k))) (from (suc k))))
           → From k (rows_of (suc b) (at p (suc k)) (from k))
-      go s (Halt x) t more =
+      go s (Err x) t more =
           record { many = 0; end = closing_by (at p (suc k)) x; are = rows_halt (at p (suc k)) (from k) b s x t; each = λ i l u. absurd (omega arith) }
-      go s Pass t more =
+      go s (Ok u) t more =
           let q = pass_parts image' p (suc k) (next_due (at p (suc k))) (from k) true t in
           let n : k < p.n = omega (arith, leb-false (total_of image' p) (suc k) q.going, image_total p) in
           let l : (next_due (at p (suc k))).length ≡ p.l = ap (λ (x : Due). x.length) (line_due_lem p k n) in
@@ -157,8 +155,8 @@ named_rows : (input : List ℕ) (d : ℕ) → (walk_of (suc d) (fresh image') in
 named_rows input d h = go (turn_of (fresh image') input true) refl
   where
     go : (t : Turn) → turn_of (fresh image') input true ≡ t → Named input (rows_of (suc d) (fresh image') input)
-    go (Halt x) t = subst (Named input) (sym (rows_halt (fresh image') input d fresh_short x t)) (alone (closing_by (fresh image') x))
-    go Pass t =
+    go (Err x) t = subst (Named input) (sym (rows_halt (fresh image') input d fresh_short x t)) (alone (closing_by (fresh image') x))
+    go (Ok u) t =
         let after = next_of (fresh image') input in
         let p = after.plan in
         let g = good_next (fresh image') input true (good_fresh image) t in

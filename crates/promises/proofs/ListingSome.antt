@@ -2,22 +2,20 @@
 use Prim.Native.Nat.{ℕ, zero, suc, ◌+◌, ◌≤◌, ◌<◌}
 use mathlib.Core.Path.{◌≡◌, refl, sym, ap, ◌∙◌, subst}
 use mathlib.Core.Bool.{Bool, true, false}
-use mathlib.Core.Logic.{◌≢◌, inl, inr, ⊎_elim}
+use mathlib.Core.Logic.{inl, ⊎_elim}
 use mathlib.Core.List.{List, [], ◌∷◌, ◌++◌}
 use native.Mathlib.Omega.{arith}
 use lib.Dec.{eqb}
 use lib.ListN.{length, take, drop, take-append-drop, length-append, length-drop, length-take}
 use borrow.Author.Tests.{leb-false, ltb-false, eqb-false}
+use Rattle.std.specs.Prelude.{Ok, Err}
 use Rattle.words.specs.Tests.{pick}
 use Rattle.words.proofs.Laws.{cases}
 use Rattle.plan.specs.Plan.{image as image', total_of, due_of}
-use Rattle.turns.specs.Turn.{on_fine, judge_of}
+use Rattle.turns.specs.Turn.{on_fine, Turn}
 use Rattle.turns.specs.declared.Stop.{Stop}
 use Rattle.turns.specs.declared.Stop.TheVariants.{Wait, Pause, Complete as Complete', Refused as Refused'}
-use Rattle.turns.specs.declared.Turn.{Turn}
-use Rattle.turns.specs.declared.Turn.TheVariants.{Pass, Halt}
 use Rattle.turns.proofs.TurnLaws.{pass_parts, pass_going, judge_body}
-use Rattle.verdicts.specs.declared.Verdict.{Verdict}
 use Rattle.walk.specs.State.{fresh, good_state, next_due}
 use Rattle.walk.specs.Walk.{turn_of, next_of, walk_of}
 use Rattle.walk.specs.declared.State.{State}
@@ -31,9 +29,9 @@ use Rattle.listing.specs.declared.Say.TheVariants.{Want, Next, Last}
 use Rattle.listing.specs.declared.Told.{Told}
 use Rattle.listing.proofs.TurnLaws.{told_is}
 use Rattle.rows.specs.declared.Row.{Row}
-use Rattle.rows.specs.declared.Row.TheVariants.{TooLong, Complete, Refused}
+use Rattle.verdicts.specs.Tests.{Verdict}
 use Rattle.promises.specs.Rules.{image}
-use Rattle.promises.specs.Listing.{Lists, piece, ended, next, last, closing_by}
+use Rattle.promises.specs.Listing.{Lists, piece, ended, next, last}
 use Rattle.promises.proofs.Accepts.{good_fresh}
 use Rattle.promises.proofs.Counted.{closed_never_waits}
 use Rattle.promises.proofs.FirstPasses.{one_turn}
@@ -47,12 +45,12 @@ pub record Cutting : Type 0 where
   pub few : (held rest : List ℕ) (m : ℕ) → 1 ≤ m → cut held rest m ≤ m
 
 -- a record that passes a closed file passes an open one
-open_passes : (st : State) (b : List ℕ) → turn_of st b true ≡ Pass → turn_of st b false ≡ Pass
+open_passes : (st : State) (b : List ℕ) → turn_of st b true ≡ Ok tt → turn_of st b false ≡ Ok tt
 open_passes st b t =
     let q = pass_parts st.kind st.plan st.passed (next_due st) b true t in
     judge_body st.kind st.plan st.passed (next_due st) b false (leb-false _ _ q.going) (ltb-false _ _ q.twelve) q.head
     (ltb-false _ _ q.whole)
-    ∙ ap (λ (v : Verdict). on_fine v (next_due st).ordinal (next_due st).start Pass) q.body
+    ∙ ap (λ (v : Verdict). on_fine v (next_due st).ordinal (next_due st).start (Ok tt)) q.body
 
 wanted_some : (n : ℕ) → 1 ≤ wanted n
 unfolding wanted
@@ -71,8 +69,8 @@ module _ (st : State) (held : List ℕ) (g : good_state st ≡ true) (short : to
       no_pause e = by (turn_of st held true) refl
         where
           by : (t : Turn) → turn_of st held true ≡ t → ⊥
-          by Pass t = pass≢halt (sym (open_passes st held t) ∙ turn_waits st held g n waits)
-          by (Halt x) t = never_pause st held true x t (sym (ap (λ (w : Walked). w.stop) (walk_halt st held true 0 x g t)) ∙ e)
+          by (Ok u) t = pass≢halt (sym (open_passes st held t) ∙ turn_waits st held g n waits)
+          by (Err x) t = never_pause st held true x t (sym (ap (λ (w : Walked). w.stop) (walk_halt st held true 0 x g t)) ∙ e)
 
       go : (x : Stop) → (walk_of 1 st held true).stop ≡ x → (row : Row) × ((told_of st held true).say ≡ Last row)
       go (Wait m) e = absurd (closed_never_waits 1 st held m e)

@@ -7,11 +7,11 @@ use native.Mathlib.Omega.{arith}
 use lib.Dec.{eqb}
 use lib.ListN.{length, replicate}
 use borrow.Author.Tests.{eq-eqb}
+use Rattle.std.specs.Prelude.{Ok}
 use Rattle.words.specs.Tests.{pick}
 use Rattle.words.specs.Words.{two_at, four_at}
 use Rattle.words.proofs.Laws.{both_make}
 use Rattle.plan.specs.declared.Codes.{Codes}
-use Rattle.verdicts.specs.declared.Verdict.TheVariants.{Fine}
 use Rattle.verdicts.proofs.Holding.{holds_fine}
 use Rattle.headers.specs.Header.{codes_are, header_tests, header_of}
 use Rattle.promises.specs.Witness.{four, made}
@@ -44,7 +44,7 @@ module _ (n : ℕ) (c : Codes) (long : ℕ) (rest : List ℕ) where
   unfolding four_at two_at made four
   made_says = four_sum long
 
-  pub made_header : header_of n c long (made n c long rest) ≡ Fine
+  pub made_header : header_of n c long (made n c long rest) ≡ Ok tt
   unfolding header_of header_tests
   made_header =
       holds_fine (header_tests n c long (made n c long rest)) (eq-eqb _ _ made_number, (made_codes, (eq-eqb _ _ made_says, tt)))

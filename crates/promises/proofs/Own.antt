@@ -1,16 +1,17 @@
 -- States of one's own: calls begun fresh, over any pieces, say together what one call on all the bytes passed says, since a record that passed passes
 -- again on its own bytes alone.
-use Prim.Native.Nat.{ℕ, zero, suc, ◌+◌, ◌≤◌, ◌<◌}
+use Prim.Native.Nat.{ℕ, suc, ◌+◌, ◌≤◌, ◌<◌}
 use mathlib.Core.Path.{◌≡◌, refl, sym, ap, ap₂, ◌∙◌}
 use mathlib.Core.List.{List, ◌++◌, append_assoc}
 use mathlib.Core.Bool.{Bool, true, false}
 use mathlib.Core.Logic.{⊎_elim}
-use native.Mathlib.Nat.{zero-add}
+use native.Mathlib.Nat.{zero-add, pos_of_ne-zero}
 use native.Mathlib.Omega.{arith}
 use lib.Dec.{eqb}
 use lib.ListN.{length, take, drop}
 use lib.Seq.{length-take-le, drop_at, take-length, take-take, take-add}
 use borrow.Author.Tests.{eqb-true, eqb-false}
+use Rattle.std.specs.Prelude.{Ok}
 use Rattle.words.specs.Tests.{pick}
 use Rattle.words.proofs.Laws.{cases, within_true}
 use Rattle.plan.specs.Tables.{rows}
@@ -20,18 +21,17 @@ use Rattle.plan.specs.declared.Spot.{Spot}
 use Rattle.plan.proofs.CodeLaws.{spot_first}
 use Rattle.bodies.specs.Bodies.{body_of}
 use Rattle.bodies.specs.Named.{plan_of}
-use Rattle.verdicts.specs.declared.Verdict.{Verdict}
 use Rattle.walk.specs.State.{fresh, good_state, next_due}
 use Rattle.turns.specs.Turn.{on_fine}
 use Rattle.walk.specs.Walk.{turn_of, next_of, stopped, more, bad_stop, walk_of}
 use Rattle.walk.specs.declared.State.{State}
 use Rattle.turns.specs.declared.Stop.{Stop}
 use Rattle.turns.specs.declared.Stop.TheVariants.{Pause}
-use Rattle.turns.specs.declared.Turn.TheVariants.{Pass}
 use Rattle.walk.specs.declared.Walked.{Walked}
 use Rattle.walk.proofs.GoodLaws.{good_known, good_later}
 use Rattle.turns.proofs.TurnLaws.{pass_parts, pass_long, pass_going, judge_body}
 use Rattle.walk.proofs.LoopLaws.{walk_pass, more_more, more_none}
+use Rattle.verdicts.specs.Tests.{Verdict}
 use Rattle.promises.specs.Rules.{Kind, kind_number}
 use Rattle.promises.specs.Pieces.{used_of}
 use Rattle.promises.specs.Arriving.{Own, begun, again}
@@ -77,16 +77,12 @@ twelve st g r h =
     (λ z.
     let n = eqb-false st.passed 0 z in
     let q = good_later st g n in
-    later_twelve st.kind st.plan st.passed k.0 k.1 q.0 r.0 r.1 (one_up st.passed n) h)
+    later_twelve st.kind st.plan st.passed k.0 k.1 q.0 r.0 r.1 (pos_of_ne-zero n) h)
     (cases (eqb st.passed 0))
-  where
-    one_up : (m : ℕ) → (m ≡ 0 → ⊥) → 1 ≤ m
-    one_up zero n = absurd (n refl)
-    one_up (suc m) n = omega arith
 
 -- a record that passed passes open on its own bytes alone
-pub pass_alone : (st : State) (b : List ℕ) (c : Bool) → good_state st ≡ true → Rows st → turn_of st b c ≡ Pass
-    → turn_of st (take (next_due st).length b) false ≡ Pass
+pub pass_alone : (st : State) (b : List ℕ) (c : Bool) → good_state st ≡ true → Rows st → turn_of st b c ≡ Ok tt
+    → turn_of st (take (next_due st).length b) false ≡ Ok tt
 pass_alone st b c g r t =
     let s = next_due st in
     let q = pass_parts st.kind st.plan st.passed s b c t in
@@ -95,8 +91,8 @@ pass_alone st b c g r t =
     let w = twelve st g r o in
     let e : length (take s.length b) ≡ s.length = length-take-le s.length b l in
     judge_body st.kind st.plan st.passed s (take s.length b) false o (omega arith) (header_take _ _ _ s.length b w ∙ q.head) (omega arith)
-    ∙ ap (λ (y : List ℕ). on_fine (body_of st.kind s.run st.plan st.passed y) (st.passed + 1) s.start Pass) (take-all-of s.length b e)
-    ∙ ap (λ (v : Verdict). on_fine v (st.passed + 1) s.start Pass) q.body
+    ∙ ap (λ (y : List ℕ). on_fine (body_of st.kind s.run st.plan st.passed y) (st.passed + 1) s.start (Ok tt)) (take-all-of s.length b e)
+    ∙ ap (λ (v : Verdict). on_fine v (st.passed + 1) s.start (Ok tt)) q.body
   where
     take-all-of : (n : ℕ) (y : List ℕ) → length (take n y) ≡ n → take n (take n y) ≡ take n y
     take-all-of n y e = ap (λ (m : ℕ). take m (take n y)) (sym e) ∙ take-length (take n y)
@@ -116,7 +112,7 @@ alone_none : (c : Bool) (n : ℕ) (st : State) (b : List ℕ) (x : Stop) → Alo
 unfolding Alone
 alone_none c n st b x r d ys e = rw zero-add (more_none (walk_of d st ys e))
 
-alone_pass : (c : Bool) (n : ℕ) (st : State) (b : List ℕ) (w : Walked) (u : ℕ) → good_state st ≡ true → turn_of st b c ≡ Pass
+alone_pass : (c : Bool) (n : ℕ) (st : State) (b : List ℕ) (w : Walked) (u : ℕ) → good_state st ≡ true → turn_of st b c ≡ Ok tt
     → Alone c n (next_of st b) (drop (next_due st).length b) w u → Alone c (suc n) st b (more 1 w) ((next_due st).length + u)
 unfolding Alone
 alone_pass c n st b w u g t ih r d ys e =

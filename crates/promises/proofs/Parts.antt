@@ -12,9 +12,11 @@ use lib.IntN.{ℤ, pos, negsuc}
 use lib.ListN.{length, take, drop}
 use lib.Seq.{drop-cons, get_or-take}
 use borrow.Author.Tests.{eqb-true, eqb-false, eq-eqb, ne_eqb}
+use Rattle.std.specs.Prelude.{Ok, Err, Some, None}
 use Rattle.words.specs.Tests.{pick, both_of}
 use Rattle.words.specs.Words.{byte_at, two_at, four_at, place_of}
 use Rattle.words.proofs.Laws.{both_l, both_r, both_make, within_true, true_within}
+use Rattle.decimal.specs.Written.{Written, number_written, blank as blank_written, badly as badly_written}
 use Rattle.decimal.specs.Forms.{width_of, shape_of}
 use Rattle.decimal.specs.Scan.{written}
 use Rattle.decimal.specs.Grammar.{Good, blank as blanks, whole, fixed, expo, well, badly}
@@ -23,8 +25,6 @@ use Rattle.decimal.specs.declared.Form.{Form}
 use Rattle.decimal.specs.declared.Form.TheVariants.{I6}
 use Rattle.decimal.specs.declared.Shape.{Shape}
 use Rattle.decimal.specs.declared.Shape.TheVariants.{Whole}
-use Rattle.decimal.specs.declared.Written.{Written}
-use Rattle.decimal.specs.declared.Written.TheVariants.{Number, Blank, Bad}
 use Rattle.decimal.proofs.Answer as answer
 use Rattle.fields.specs.Field.{field_bytes, bad_place, from_written}
 use Rattle.fields.specs.declared.Field.{Field}
@@ -36,7 +36,6 @@ use Rattle.verdicts.specs.Tests.{Test, text_at, readable?, number_tests, count_t
 use Rattle.verdicts.specs.Numbers.{at, last_of, number_at}
 use Rattle.leader.specs.Leader.{count_at, length_at, slot_tests}
 use Rattle.leader.specs.declared.Pair as declared
-use Rattle.verdicts.specs.declared.Verdict.TheVariants.{Fine}
 use Rattle.verdicts.proofs.Holding.{Holds, fine_holds, holds_fine, holds_split, holds_join}
 use Rattle.leader.proofs.PairLaws.{length_none, length_some}
 use Rattle.headers.specs.Header.{codes_are, header_tests, header_of}
@@ -111,7 +110,7 @@ codes_from b c h =
     (both_make _ _ (eq-eqb _ _ h.three) (fourth_from c.free c.four (byte_at b 7) h.four))
 
 -- a record of the length due: no fault in its header is that it is the record due
-pub header_is : (ordinal : ℕ) (c : Codes) (long : ℕ) (r : List ℕ) → length r ≡ long → (header_of ordinal c long r ≡ Fine) ↔ Record ordinal (CodedBy c) long r
+pub header_is : (ordinal : ℕ) (c : Codes) (long : ℕ) (r : List ℕ) → length r ≡ long → (header_of ordinal c long r ≡ Ok tt) ↔ Record ordinal (CodedBy c) long r
 unfolding header_of header_tests place_of
 header_is ordinal c long r size = (
   λ e.
@@ -122,10 +121,11 @@ header_is ordinal c long r size = (
 
 -- four code bytes that are due, and three with any fourth
 module _ (ordinal a b c d long : ℕ) (r : List ℕ) (size : length r ≡ long) where
-  pub header_four : (header_of ordinal (codes a b c d) long r ≡ Fine) ↔ Record ordinal (Coded a b c (Is d)) long r
+  pub header_four : (header_of ordinal (codes a b c d) long r ≡ Ok tt) ↔ Record ordinal (Coded a b c (Is d)) long r
   header_four = header_is ordinal (codes a b c d) long r size
 
-  pub header_three : (header_of ordinal (record { one = a; two = b; three = c; four = d; free = true }) long r ≡ Fine) ↔ Record ordinal (Coded a b c Any) long r
+  pub header_three : (header_of ordinal (record { one = a; two = b; three = c; four = d; free = true }) long r ≡ Ok tt)
+      ↔ Record ordinal (Coded a b c Any) long r
   header_three = header_is ordinal (record { one = a; two = b; three = c; four = d; free = true }) long r size
 
 -- a header is judged by its first twelve bytes
@@ -156,12 +156,19 @@ header_take ordinal c long n b h =
 
 -- ---- number fields
 
+-- the exponent of what is written
+exponent_of : Written → ℤ
+exponent_of (Ok (Some x)) = x.exponent
+exponent_of (Ok None) = pos 0
+exponent_of (Err x) = pos 0
+
 -- a whole number has no exponent
-pub no_exponent : {s : Shape} {bs : List ℕ} {r : Written} → Good true s bs r → s ≡ Whole → (m e : ℤ) → r ≡ Number m e → e ≡ pos 0
-no_exponent (blanks s n) q m e z = cc
-no_exponent (whole w) q m e z = cc
-no_exponent (fixed w) q m e z = cc
-no_exponent (expo w g ds n l) q m e z = cc
+pub no_exponent : {s : Shape} {bs : List ℕ} {r : Written} → Good true s bs r → s ≡ Whole → (m e : ℤ) → r ≡ number_written m e → e ≡ pos 0
+unfolding exponent_of
+no_exponent (blanks s n) q m e z = sym (ap exponent_of z)
+no_exponent (whole w) q m e z = sym (ap exponent_of z)
+no_exponent (fixed w) q m e z = sym (ap exponent_of z)
+no_exponent (expo w g ds n l) q m e z = absurd cc
 
 -- the field at a byte as what is written there: badly written is 6 at its first bad byte
 abbrev pub reading : List ℕ → ℕ → Form → Written → Field
@@ -177,41 +184,48 @@ module _ (r : List ℕ) (byte : ℕ) (k : Form) (here : place_of byte + width_of
 
   -- a property of a field, shown of each answer that the grammar allows, and where it allows none
   pub by_means : (P : Field → Type 0) → ((w : Written) → Says r byte k w → P (reading r byte k w))
-      → (((w : Written) → Says r byte k w → ⊥) → P (reading r byte k Bad)) → P (at r byte k)
+      → (((w : Written) → Says r byte k w → ⊥) → P (reading r byte k badly_written)) → P (at r byte k)
   by_means P g b = subst P (sym told) (go (written k (field_bytes r (place_of byte) k)) (answer.says k (field_bytes r (place_of byte) k)))
     where
       go : (w : Written) → grammar.Means k (field_bytes r (place_of byte) k) w → P (reading r byte k w)
       go w (well f) = g w f
       go w (badly n) = b n
 
-  by_says : (P : Field → Type 0) → ((w : Written) → Says r byte k w → P (reading r byte k w)) → P (reading r byte k Bad) → P (at r byte k)
+  by_says : (P : Field → Type 0) → ((w : Written) → Says r byte k w → P (reading r byte k w)) → P (reading r byte k badly_written) → P (at r byte k)
   by_says P g b = by_means P g (λ n. b)
 
   readable_to : readable? (at r byte k) ≡ true → Readable r byte k
   readable_to = by_says (λ (f : Field). readable? f ≡ true → Readable r byte k) (λ w s e. (w, s)) (λ e. absurd (false≢true e))
 
   readable_from : Readable r byte k → readable? (at r byte k) ≡ true
-  readable_from (Number m e, f) = ap readable? (field_reads (Number m e) f)
-  readable_from (Blank, f) = ap readable? (field_reads Blank f)
-  readable_from (Bad, f) = absurd (answer.never f.1 refl)
+  readable_from (Ok (Some x), f) = ap readable? (field_reads (Ok (Some x)) f)
+  readable_from (Ok None, f) = ap readable? (field_reads blank_written f)
+  readable_from (Err x, f) = absurd (answer.never f.1 refl)
 
   -- a listed field is a value or blank
   pub readable_is : (readable? (at r byte k) ≡ true) ↔ Readable r byte k
   readable_is = (readable_to, readable_from)
 
   module _ (plain : shape_of k ≡ Whole) (lo hi : ℕ) where
-    number_well : (w : Written) → Says r byte k w → Holds (number_tests (reading r byte k w) (place_of byte) (last_of byte k) lo hi)
+    abbrev numbering : Written → Type 0
+    numbering w =
+        Says r byte k w → Holds (number_tests (reading r byte k w) (place_of byte) (last_of byte k) lo hi)
         → Numbered r byte k lo hi (number_of (reading r byte k w))
-    number_well (Number (pos n) e) f h =
+
+    number_some : (v e : ℤ) → numbering (number_written v e)
+    number_some (pos n) e f h =
         let b = within_true lo n hi h.1.0 in
         record {
-          says = subst (λ (x : ℤ). Says r byte k (Number (pos n) x)) (no_exponent f.1 plain (pos n) e refl) f;
+          says = subst (λ (x : ℤ). Says r byte k (number_written (pos n) x)) (no_exponent f.1 plain (pos n) e refl) f;
           least = b.0;
           most = b.1;
         }
-    number_well (Number (negsuc n) e) f h = absurd (false≢true h.1.0)
-    number_well Blank f h = absurd (false≢true h.0)
-    number_well Bad f h = absurd (false≢true h.0)
+    number_some (negsuc n) e f h = absurd (false≢true h.1.0)
+
+    number_well : (w : Written) → numbering w
+    number_well (Ok (Some x)) f h = number_some x.units x.exponent f h
+    number_well (Ok None) f h = absurd (false≢true h.0)
+    number_well (Err x) f h = absurd (false≢true h.0)
 
     number_to : Holds (number_tests (at r byte k) (place_of byte) (last_of byte k) lo hi) → Numbered r byte k lo hi (number_at r byte k)
     number_to =
@@ -220,11 +234,11 @@ module _ (r : List ℕ) (byte : ℕ) (k : Form) (here : place_of byte + width_of
 
     -- the number that is written
     pub number_reads : (n : ℕ) → Numbered r byte k lo hi n → number_at r byte k ≡ n
-    number_reads n q = ap number_of (field_reads (Number (pos n) (pos 0)) q.says)
+    number_reads n q = ap number_of (field_reads (number_written (pos n) (pos 0)) q.says)
 
     number_from : (n : ℕ) → Numbered r byte k lo hi n → Holds (number_tests (at r byte k) (place_of byte) (last_of byte k) lo hi)
     number_from n q =
-        subst (λ (f : Field). Holds (number_tests f (place_of byte) (last_of byte k) lo hi)) (sym (field_reads (Number (pos n) (pos 0)) q.says))
+        subst (λ (f : Field). Holds (number_tests f (place_of byte) (last_of byte k) lo hi)) (sym (field_reads (number_written (pos n) (pos 0)) q.says))
         (refl, (true_within lo n hi q.least q.most, tt))
 
     -- a number field without a fault says a number of its range, the one that is read
@@ -236,23 +250,28 @@ module _ (r : List ℕ) (byte : ℕ) (k : Form) (here : place_of byte + width_of
 module _ (r : List ℕ) (x : declared.Pair) (s : Slot) (here : place_of x.byte + 6 ≤ length r) where
   -- a count without a fault is blank, and 0 allowed, or a number of its range
   abbrev Counted : ℕ → Type 0
-  Counted n = (Says r x.byte I6 Blank × (n ≡ 0) × (s.least ≤ 0)) ⊎ Numbered r x.byte I6 s.least s.most n
+  Counted n = (Says r x.byte I6 blank_written × (n ≡ 0) × (s.least ≤ 0)) ⊎ Numbered r x.byte I6 s.least s.most n
 
   abbrev counting : Field → List Test
   counting f = count_tests f (place_of x.byte) s.least s.most
 
-  count_well : (w : Written) → Says r x.byte I6 w → Holds (counting (reading r x.byte I6 w))
-      → Counted (number_of (reading r x.byte I6 w))
-  count_well (Number (pos n) e) f h =
+  abbrev counted_by : Written → Type 0
+  counted_by w = Says r x.byte I6 w → Holds (counting (reading r x.byte I6 w)) → Counted (number_of (reading r x.byte I6 w))
+
+  count_some : (v e : ℤ) → counted_by (number_written v e)
+  count_some (pos n) e f h =
       let b = within_true s.least n s.most h.1.0 in
       inr (record {
-        says = subst (λ (y : ℤ). Says r x.byte I6 (Number (pos n) y)) (no_exponent f.1 refl (pos n) e refl) f;
+        says = subst (λ (y : ℤ). Says r x.byte I6 (number_written (pos n) y)) (no_exponent f.1 refl (pos n) e refl) f;
         least = b.0;
         most = b.1;
       })
-  count_well (Number (negsuc n) e) f h = absurd (false≢true h.1.0)
-  count_well Blank f h = inl (f, refl, (within_true s.least 0 s.most h.1.0).0)
-  count_well Bad f h = absurd (false≢true h.0)
+  count_some (negsuc n) e f h = absurd (false≢true h.1.0)
+
+  count_well : (w : Written) → counted_by w
+  count_well (Ok (Some y)) f h = count_some y.units y.exponent f h
+  count_well (Ok None) f h = inl (f, refl, (within_true s.least 0 s.most h.1.0).0)
+  count_well (Err y) f h = absurd (false≢true h.0)
 
   count_to : Holds (counting (at r x.byte I6)) → Counted (count_at r x)
   unfolding count_at
@@ -303,20 +322,20 @@ module _ (r : List ℕ) (x : declared.Pair) (s : Slot) (here : place_of x.byte +
 
     pair_from : {c l : ℕ} → PairOf c l → Passes c l
     pair_from (blank f z) =
-        let e = count_reads Blank f in
-        (made Blank f (refl, (true_within s.least 0 s.most z (omega arith), tt)) (λ n. absurd (n e)), e, length_none r x e)
+        let e = count_reads blank_written f in
+        (made blank_written f (refl, (true_within s.least 0 s.most z (omega arith), tt)) (λ n. absurd (n e)), e, length_none r x e)
     pair_from (none q) =
-        let e = count_reads (Number (pos 0) (pos 0)) q.says in (
-          made (Number (pos 0) (pos 0)) q.says (refl, (true_within s.least 0 s.most q.least q.most, tt))
+        let e = count_reads (number_written (pos 0) (pos 0)) q.says in (
+          made (number_written (pos 0) (pos 0)) q.says (refl, (true_within s.least 0 s.most q.least q.most, tt))
               (λ n. absurd (n e)),
           e,
           length_none r x e,
         )
     pair_from (some {count = c} {long = l} q m) =
-        let e = count_reads (Number (pos (suc c)) (pos 0)) q.says in
+        let e = count_reads (number_written (pos (suc c)) (pos 0)) q.says in
         let n : count_at r x ≡ 0 → ⊥ = λ z. omega arith in
         let b = (number_is r (x.byte + 6) x.form there plain s.shortest s.longest l).1 m in (
-          made (Number (pos (suc c)) (pos 0)) q.says (refl, (true_within s.least (suc c) s.most q.least q.most, tt)) (λ _. b.0),
+          made (number_written (pos (suc c)) (pos 0)) q.says (refl, (true_within s.least (suc c) s.most q.least q.most, tt)) (λ _. b.0),
           e,
           length_some r x n ∙ b.1,
         )

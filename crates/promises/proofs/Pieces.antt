@@ -9,13 +9,13 @@ use native.Mathlib.Nat.{zero-add}
 use native.Mathlib.Omega.{arith}
 use lib.ListN.{length, drop, length-drop}
 use lib.Seq.{drop-drop, drop-append-le}
+use Rattle.std.specs.Prelude.{Ok, Err}
 use Rattle.words.specs.declared.Refusal.{Refusal}
 use Rattle.walk.specs.State.{good_state, next_due}
 use Rattle.walk.specs.Walk.{turn_of, next_of, stopped, more, bad_stop, walk_of}
 use Rattle.walk.specs.declared.State.{State}
 use Rattle.turns.specs.declared.Stop.{Stop}
 use Rattle.turns.specs.declared.Stop.TheVariants.{Pause, Refused}
-use Rattle.turns.specs.declared.Turn.TheVariants.{Pass, Halt}
 use Rattle.walk.specs.declared.Walked.{Walked}
 use Rattle.walk.proofs.LoopLaws.{walk_bad, walk_halt, walk_pass, more_more, more_none}
 use Rattle.walk.proofs.TurnLaws.{good_next}
@@ -24,7 +24,7 @@ use Rattle.promises.proofs.Steps.{by_turns}
 use Rattle.promises.proofs.Turns.{turn_refusal_stays, turn_pass_stays, turn_room, next_stays, rest_stays, pause≢refused}
 
 -- u bytes behind a passed record
-onward : (st : State) (b ys : List ℕ) (u : ℕ) → turn_of st b false ≡ Pass
+onward : (st : State) (b ys : List ℕ) (u : ℕ) → turn_of st b false ≡ Ok tt
     → drop u (drop (next_due st).length b ++ ys) ≡ drop ((next_due st).length + u) (b ++ ys)
 onward st b ys u t = ap (drop u) (sym (rest_stays st b ys t)) ∙ drop-drop u (next_due st).length (b ++ ys)
 
@@ -36,7 +36,7 @@ joined_none : (n : ℕ) (st : State) (b : List ℕ) (x : Stop) → Joined n st b
 unfolding Joined
 joined_none n st b x d ys e = rw zero-add (more_none (walk_of d st (b ++ ys) e))
 
-joined_pass : (n : ℕ) (st : State) (b : List ℕ) (w : Walked) (u : ℕ) → good_state st ≡ true → turn_of st b false ≡ Pass
+joined_pass : (n : ℕ) (st : State) (b : List ℕ) (w : Walked) (u : ℕ) → good_state st ≡ true → turn_of st b false ≡ Ok tt
     → Joined n (next_of st b) (drop (next_due st).length b) w u → Joined (suc n) st b (more 1 w) ((next_due st).length + u)
 unfolding Joined
 joined_pass n st b w u g t ih d ys e =
@@ -76,7 +76,7 @@ again : (b : ℕ) (st : State) (bs : List ℕ) → Again b st bs (walk_of b st b
 unfolding Again
 again =
     by_turns false Again (λ n s y g x e ys c d. walk_bad s (y ++ ys) c (suc d) g ∙ ap (stopped s) e) (λ s y g x e ys c d. absurd (pause≢refused e))
-    (λ n s y z g t x e ys c d. walk_halt s (y ++ ys) c d (Refused x) g (turn_refusal_stays s y ys c x (t ∙ ap Halt e)))
+    (λ n s y z g t x e ys c d. walk_halt s (y ++ ys) c d (Refused x) g (turn_refusal_stays s y ys c x (t ∙ ap Err e)))
     (λ n s y w u g t i x e ys c d. ap (λ (r : List ℕ). walk_of (suc d) w.state r c) (sym (onward s y ys u t)) ∙ i x e ys c d)
 
 -- asked again, with any further bytes and a budget of at least 1: the same number, record and place, and count 0
@@ -90,8 +90,8 @@ refusal_repeats b st bs x e (suc d) h ys c = again b st bs x e ys c d
 -- the stop of a call that does not pause is the turn's at the state handed back, on the bytes not passed: a refused, waiting or complete record's
 -- state is the one before it
 pub last_turn : (b : ℕ) (st : State) (bs : List ℕ) (c : Bool) → good_state st ≡ true → (walk_of b st bs c).stop ≢ Pause
-    → turn_of (walk_of b st bs c).state (drop (used_of b st bs c) bs) c ≡ Halt (walk_of b st bs c).stop
+    → turn_of (walk_of b st bs c).state (drop (used_of b st bs c) bs) c ≡ Err (walk_of b st bs c).stop
 last_turn b st bs c =
-    by_turns c (λ n s y w u. good_state s ≡ true → w.stop ≢ Pause → turn_of w.state (drop u y) c ≡ Halt w.stop)
+    by_turns c (λ n s y w u. good_state s ≡ true → w.stop ≢ Pause → turn_of w.state (drop u y) c ≡ Err w.stop)
     (λ n s y g h p. absurd (false≢true (sym g ∙ h))) (λ s y g h p. absurd (p refl)) (λ n s y x g t h p. t)
     (λ n s y w u g t i h p. rw (← drop-drop u (next_due s).length y) (i (good_next s y c h t) p)) b st bs

@@ -7,15 +7,15 @@ use mathlib.Core.List.{List}
 use native.Mathlib.Omega.{arith}
 use lib.ListN.{length, take, drop}
 use lib.Seq.{length-take-le}
+use Rattle.std.specs.Prelude.{Ok, Err}
 use Rattle.plan.specs.Plan.{first_length, spot_of, zero_plan, total_of, first_codes, codes_of}
 use Rattle.plan.specs.declared.Plan.{Plan}
 use Rattle.bodies.specs.Named.{plan_of}
 use Rattle.walk.specs.State.{fresh, good_state, next_due}
 use Rattle.walk.specs.Walk.{turn_of, next_of, walk_of}
 use Rattle.walk.specs.declared.State.{State}
+use Rattle.turns.specs.Turn.{Turn}
 use Rattle.turns.specs.declared.Stop.TheVariants.{Pause}
-use Rattle.turns.specs.declared.Turn.{Turn}
-use Rattle.turns.specs.declared.Turn.TheVariants.{Pass, Halt}
 use Rattle.walk.specs.declared.Walked.{Walked}
 use Rattle.walk.proofs.LoopLaws.{walk_bad, walk_halt, walk_pass, walk_pause}
 use Rattle.walk.proofs.TurnLaws.{next_passed}
@@ -35,7 +35,7 @@ use Rattle.promises.proofs.Least.{first_least}
 use Rattle.promises.proofs.FirstIs.{first_is}
 
 -- the first record that passed, by the rules
-pub first_passed : (kind : Kind) (bs : List ℕ) (c : Bool) → turn_of (fresh (kind_number kind)) bs c ≡ Pass
+pub first_passed : (kind : Kind) (bs : List ℕ) (c : Bool) → turn_of (fresh (kind_number kind)) bs c ≡ Ok tt
     → First kind (take (first_length (kind_number kind)) bs) (next_of (fresh (kind_number kind)) bs).plan
 unfolding next_of spot_of codes_of
 first_passed kind bs c t =
@@ -58,7 +58,8 @@ plan_kept b st bs c =
 
 -- a walk begun fresh that has passed a record passed the file's first, and its plan is the one behind that record
 pub first_walked : (kind : Kind) (bs : List ℕ) (c : Bool) (n : ℕ) → ((walk_of n (fresh (kind_number kind)) bs c).count ≡ 0 → ⊥)
-    → (turn_of (fresh (kind_number kind)) bs c ≡ Pass) × ((walk_of n (fresh (kind_number kind)) bs c).state.plan ≡ (next_of (fresh (kind_number kind)) bs).plan)
+    → (turn_of (fresh (kind_number kind)) bs c ≡ Ok tt)
+    × ((walk_of n (fresh (kind_number kind)) bs c).state.plan ≡ (next_of (fresh (kind_number kind)) bs).plan)
 first_walked kind bs c n h = go n h (cases (good_state st)) (turn_of st bs c) refl
   where
     st : State
@@ -68,11 +69,11 @@ first_walked kind bs c n h = go n h (cases (good_state st)) (turn_of st bs c) re
     count_of w v e z = ap (λ (x : Walked). x.count) e ∙ z
 
     go : (m : ℕ) → ((walk_of m st bs c).count ≡ 0 → ⊥) → (good_state st ≡ true) ⊎ (good_state st ≡ false) → (t : Turn) → turn_of st bs c ≡ t
-        → (turn_of st bs c ≡ Pass) × ((walk_of m st bs c).state.plan ≡ (next_of st bs).plan)
+        → (turn_of st bs c ≡ Ok tt) × ((walk_of m st bs c).state.plan ≡ (next_of st bs).plan)
     go m k (inr g) t e = absurd (k (count_of _ _ (walk_bad st bs c m g) refl))
     go zero k (inl g) t e = absurd (k (count_of _ _ (walk_pause st bs c g) refl))
-    go (suc m) k (inl g) (Halt x) e = absurd (k (count_of _ _ (walk_halt st bs c m x g e) refl))
-    go (suc m) k (inl g) Pass e = (
+    go (suc m) k (inl g) (Err x) e = absurd (k (count_of _ _ (walk_halt st bs c m x g e) refl))
+    go (suc m) k (inl g) (Ok u) e = (
       e,
       ap (λ (w : Walked). w.state.plan) (walk_pass st bs c m g e)
           ∙ plan_kept m (next_of st bs) (drop (next_due st).length bs) c (λ z. let o = next_passed st bs in omega arith),

@@ -7,7 +7,6 @@ use native.Mathlib.Omega.{arith}
 use lib.ListN.{length, take}
 use lib.Seq.{take_at}
 use Rattle.plan.specs.Plan.{total_of, first_length}
-use Rattle.plan.specs.declared.Plan.{Plan}
 use Rattle.bodies.specs.Named.{plan_of}
 use Rattle.walk.specs.State.{fresh}
 use Rattle.walk.specs.Walk.{walk_of}

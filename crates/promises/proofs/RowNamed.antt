@@ -9,16 +9,15 @@ use lib.Dec.{ltb}
 use lib.ListN.{length, get_or, take, drop, length-append, length-drop, get_or-append}
 use lib.Seq.{get_or-drop, get_or-append-add}
 use borrow.Author.Tests.{ne_eqb}
+use Rattle.std.specs.Prelude.{Ok, Err}
 use Rattle.words.specs.Words.{two_at}
 use Rattle.words.specs.Answer.{bare_refusal}
 use Rattle.words.specs.Tests.{pick}
 use Rattle.plan.specs.declared.Plan.{Plan}
-use Rattle.lines.specs.View.{view_of, sort_seen, sorted_of, shown_bytes}
+use Rattle.lines.specs.View.{view_of, sort_seen, sorted_of, shown_bytes, View}
 use Rattle.copies.specs.Row.{samples, copied_by, row_by, copied_of, row_of}
-use Rattle.lines.specs.declared.View.{View}
-use Rattle.lines.specs.declared.View.TheVariants.{Shown, Wait, Refused}
-use Rattle.copies.specs.declared.Copied.TheVariants.{Done, Refused as Refused'}
 use Rattle.copies.proofs.RowLaws.{length_samples, sample_at_lem, copy_sort, copy_done, copy_short}
+use Rattle.lines.specs.declared.Unshown.TheVariants as unshown
 use Rattle.promises.specs.Rules.{sort_of}
 use Rattle.promises.specs.Shown.{line_record, Stands, data_count, bytes_of, data_start, data_pixels, sample}
 use Rattle.promises.specs.Demands.{Copies, Keeps, copier}
@@ -26,9 +25,9 @@ use Rattle.promises.proofs.LineNamed.{stands_shown, stands_room, whole_pixels, s
 
 module _ (bs : List ℕ) (k : ℕ) (p : Plan) (row : List ℕ) (t : Stands bs k p) where
   -- 23 where the samples are no counts, and the row stays
-  pub wrong_sort : (p.sort ≡ 0 → ⊥) → (copied_of bs k (length row) ≡ Refused' (bare_refusal 23)) × (row_of bs k row ≡ row)
+  pub wrong_sort : (p.sort ≡ 0 → ⊥) → (copied_of bs k (length row) ≡ Err (unshown.Refused (bare_refusal 23))) × (row_of bs k row ≡ row)
   wrong_sort n =
-      let q = copy_sort bs k row (sorted_of bs k) refl _ _ _ (stands_shown bs k p t) (λ e. n (sym (sort_seen_lem bs p t.first) ∙ e)) in (sym q.0, sym q.1)
+      let q = copy_sort bs k row (sorted_of bs k) refl _ (stands_shown bs k p t) (λ e. n (sym (sort_seen_lem bs p t.first) ∙ e)) in (sym q.0, sym q.1)
 
   module _ (counts : p.sort ≡ 0) where
     two : bytes_of p ≡ 2
@@ -44,15 +43,16 @@ module _ (bs : List ℕ) (k : ℕ) (p : Plan) (row : List ℕ) (t : Stands bs k 
 
     -- the answer, and the row: the samples, then the old row
     pub row_named : data_count (line_record p k bs) ≤ length row
-        → (copied_of bs k (length row) ≡ Done (data_count (line_record p k bs)))
+        → (copied_of bs k (length row) ≡ Ok (data_count (line_record p k bs)))
         × (row_of bs k row ≡ samples (data_count (line_record p k bs)) (data_pixels p (line_record p k bs)) ++ drop (data_count (line_record p k bs)) row)
     row_named h =
-        let q = copy_done bs k row (sorted_of bs k) refl _ _ _ (stands_shown bs k p t) seen_counts h (data_pixels p (line_record p k bs)) pixels_are in
+        let q = copy_done bs k row (sorted_of bs k) refl _ (stands_shown bs k p t) seen_counts h (data_pixels p (line_record p k bs)) pixels_are in
         (sym q.0, sym q.1)
 
     -- 15 where the row is shorter than the line's data pixels, and it stays
-    pub short_row : length row < data_count (line_record p k bs) → (copied_of bs k (length row) ≡ Refused' (bare_refusal 15)) × (row_of bs k row ≡ row)
-    short_row h = let q = copy_short bs k row (sorted_of bs k) refl _ _ _ (stands_shown bs k p t) seen_counts h in (sym q.0, sym q.1)
+    pub short_row : length row < data_count (line_record p k bs)
+        → (copied_of bs k (length row) ≡ Err (unshown.Refused (bare_refusal 15))) × (row_of bs k row ≡ row)
+    short_row h = let q = copy_short bs k row (sorted_of bs k) refl _ (stands_shown bs k p t) seen_counts h in (sym q.0, sym q.1)
 
 sample_is : (px : List ℕ) (j : ℕ) → two_at px (2 * (0 + j)) ≡ sample px j
 unfolding two_at
@@ -96,9 +96,9 @@ row_kept bs k row h = go (view_of bs k) (sort_seen bs) h
     pick-kept true x n = refl
     pick-kept false x n = absurd (n refl)
 
-    go : (v : View) (sort : ℕ) → ((n : ℕ) → copied_by v sort (length row) ≡ Done n → ⊥) → row_by v sort bs row ≡ row
-    go (Shown start count left) zero h = pick-kept (ltb (length row) count) (samples count (shown_bytes 2 (Shown start count left) bs) ++ drop count row)
-        (λ e. h count (ap (λ (b : Bool). pick b (Refused' (bare_refusal 15)) (Done count)) e))
-    go (Shown start count left) (suc i) h = simp (ne_eqb (suc i) 0 (λ e. omega arith))
-    go (Wait n) sort h = refl
-    go (Refused r) sort h = refl
+    go : (v : View) (sort : ℕ) → ((n : ℕ) → copied_by v sort (length row) ≡ Ok n → ⊥) → row_by v sort bs row ≡ row
+    go (Ok x) zero h =
+        pick-kept (ltb (length row) x.count) (samples x.count (shown_bytes 2 (Ok x) bs) ++ drop x.count row)
+        (λ e. h x.count (ap (λ (b : Bool). pick b (Err (unshown.Refused (bare_refusal 15))) (Ok x.count)) e))
+    go (Ok x) (suc i) h = simp (ne_eqb (suc i) 0 (λ e. omega arith))
+    go (Err x) sort h = refl

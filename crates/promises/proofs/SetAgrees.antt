@@ -10,14 +10,15 @@ use lib.Dec.{eqb}
 use lib.ListN.{length, take, drop, get_or, replicate, length-append, length-replicate, length-drop}
 use lib.Seq.{take_at, drop-append-add}
 use borrow.Author.Tests.{eq-eqb, eqb-true}
+use Rattle.std.specs.Prelude.{Ok, Err}
 use Rattle.words.specs.Tests.{pick}
 use Rattle.words.specs.Words.{place_of}
 use Rattle.words.specs.declared.Refusal.{Refusal}
 use lib.IntN.{pos}
+use Rattle.decimal.specs.Written.{number_written}
 use Rattle.decimal.specs.Forms.{width_of}
 use Rattle.decimal.specs.Grammar as grammar
 use Rattle.decimal.specs.declared.Form.TheVariants.{I8}
-use Rattle.decimal.specs.declared.Written.TheVariants.{Number}
 use Rattle.fields.specs.Field.{field_bytes}
 use Rattle.plan.specs.Plan.{volume as volume', first_length, total_of, sum_of, run_counts}
 use Rattle.plan.specs.declared.Plan.{Plan}
@@ -28,9 +29,7 @@ use Rattle.walk.proofs.LoopLaws.{walk_pass}
 use Rattle.walk.proofs.TurnLaws.{next_passed}
 use Rattle.turns.specs.declared.Stop.{Stop}
 use Rattle.turns.specs.declared.Stop.TheVariants.{Wait, Pause, Complete, Refused as Refused'}
-use Rattle.sets.specs.Set.{differs, count_byte, count_of, compare_from, compare_of, behind_walk, directory, set_of}
-use Rattle.sets.specs.declared.Agreement.{Agreement}
-use Rattle.sets.specs.declared.Agreement.TheVariants.{Agrees, Refused}
+use Rattle.sets.specs.Set.{differs, count_byte, count_of, compare_from, compare_of, behind_walk, directory, set_of, Agreement}
 use Rattle.sets.proofs.SetLaws.{few_pointers}
 use Rattle.promises.specs.Rules.{volume, text_record, concat}
 use Rattle.promises.specs.Newest.{Accepted, Numbered, First, VolumeDescriptor, promised, pointer}
@@ -47,23 +46,23 @@ use Rattle.promises.proofs.Uniform.{At, uniform}
 
 -- ---- the comparison
 
-refused≢agrees : (r : Refusal) → ◌≡◌ {A = Agreement} (Refused r) Agrees → ⊥
-refused≢agrees r e = let z : ◌≡◌ {A = ℕ} 0 1 = cc in omega arith
+refused≢agrees : (r : Refusal) → ◌≡◌ {A = Agreement} (Err r) (Ok tt) → ⊥
+refused≢agrees r e = cc
 
 -- every count from pointer p on is the directory's
-compare_to : (p : ℕ) (bs cs : List ℕ) → compare_from p bs cs ≡ Agrees → (i : ℕ) → i < length cs → get_or cs i 0 ≡ count_of bs (p + i)
+compare_to : (p : ℕ) (bs cs : List ℕ) → compare_from p bs cs ≡ Ok tt → (i : ℕ) → i < length cs → get_or cs i 0 ≡ count_of bs (p + i)
 unfolding compare_from
 compare_to p bs [] e i h = absurd (omega arith)
 compare_to p bs (c ∷ cs) e i h = go (λ r j l. compare_to (p + 1) bs cs r j l) (eqb c (count_of bs p)) refl e i h
   where
-    go : (compare_from (p + 1) bs cs ≡ Agrees → (j : ℕ) → j < length cs → get_or cs j 0 ≡ count_of bs (p + 1 + j))
-        → (b : Bool) → eqb c (count_of bs p) ≡ b → pick b (compare_from (p + 1) bs cs) (differs (place_of (count_byte p))) ≡ Agrees
+    go : (compare_from (p + 1) bs cs ≡ Ok tt → (j : ℕ) → j < length cs → get_or cs j 0 ≡ count_of bs (p + 1 + j))
+        → (b : Bool) → eqb c (count_of bs p) ≡ b → pick b (compare_from (p + 1) bs cs) (differs (place_of (count_byte p))) ≡ Ok tt
         → (i : ℕ) → i < length (c ∷ cs) → get_or (c ∷ cs) i 0 ≡ count_of bs (p + i)
     go ih true q r zero h = eqb-true c (count_of bs p) q ∙ ap (count_of bs) (let e : p ≡ p + 0 = omega arith in e)
     go ih true q r (suc i) h = ih r i (omega arith) ∙ ap (count_of bs) (let e : p + 1 + i ≡ p + suc i = omega arith in e)
     go ih false q r i h = absurd (refused≢agrees _ r)
 
-compare_from_lem : (p : ℕ) (bs cs : List ℕ) → ((i : ℕ) → i < length cs → get_or cs i 0 ≡ count_of bs (p + i)) → compare_from p bs cs ≡ Agrees
+compare_from_lem : (p : ℕ) (bs cs : List ℕ) → ((i : ℕ) → i < length cs → get_or cs i 0 ≡ count_of bs (p + i)) → compare_from p bs cs ≡ Ok tt
 unfolding compare_from
 compare_from_lem p bs [] h = refl
 compare_from_lem p bs (c ∷ cs) h =
@@ -73,14 +72,14 @@ compare_from_lem p bs (c ∷ cs) h =
     ∙ compare_from_lem (p + 1) bs cs (λ i l. h (suc i) (omega arith) ∙ ap (count_of bs) (let q : p + suc i ≡ p + 1 + i = omega arith in q))
 
 -- a list of the directory's own length, and its counts
-compare_is : (m : ℕ) (bs cs : List ℕ) → (compare_of m bs cs ≡ Agrees) ↔ ((length cs ≡ m) × ((i : ℕ) → i < length cs → get_or cs i 0 ≡ count_of bs (1 + i)))
+compare_is : (m : ℕ) (bs cs : List ℕ) → (compare_of m bs cs ≡ Ok tt) ↔ ((length cs ≡ m) × ((i : ℕ) → i < length cs → get_or cs i 0 ≡ count_of bs (1 + i)))
 unfolding compare_of
 compare_is m bs cs = (
   go (eqb (length cs) m) refl,
   λ h. ap (λ (b : Bool). pick b (compare_from 1 bs cs) (differs (place_of 161))) (eq-eqb (length cs) m h.0) ∙ compare_from_lem 1 bs cs h.1,
 )
   where
-    go : (b : Bool) → eqb (length cs) m ≡ b → pick b (compare_from 1 bs cs) (differs (place_of 161)) ≡ Agrees
+    go : (b : Bool) → eqb (length cs) m ≡ b → pick b (compare_from 1 bs cs) (differs (place_of 161)) ≡ Ok tt
         → (length cs ≡ m) × ((i : ℕ) → i < length cs → get_or cs i 0 ≡ count_of bs (1 + i))
     go true q r = (eqb-true (length cs) m q, compare_to 1 bs cs r)
     go false q r = absurd (refused≢agrees _ r)
@@ -97,7 +96,7 @@ directory_pauses bs e =
     enough volume' 9 bs true (let t = volume_total (directory bs).state.plan in let f = few_pointers bs in omega arith) e
 
 -- closed, with a budget of nine, it is complete or refused
-directory_ends : (bs : List ℕ) (x : Stop) → (directory bs).stop ≡ x → (a : Agreement) → behind_walk x a ≡ Agrees → (x ≡ Complete) × (a ≡ Agrees)
+directory_ends : (bs : List ℕ) (x : Stop) → (directory bs).stop ≡ x → (a : Agreement) → behind_walk x a ≡ Ok tt → (x ≡ Complete) × (a ≡ Ok tt)
 directory_ends bs (Wait n) e a q = absurd (closed_never_waits 9 (fresh volume') bs n e)
 directory_ends bs Pause e a q = absurd (directory_pauses bs e)
 directory_ends bs Complete e a q = (refl, q)
@@ -166,7 +165,7 @@ module _ (bs : List ℕ) (a : Accepted volume bs) where
     count_is n q =
         number_reads bs (count_byte (1 + i)) I8 count_held refl 1 99999999 n
         (record {
-          says = subst (λ (x : List ℕ). grammar.WellWritten I8 x (Number (pos n) (pos 0))) (sym count_bytes) q.says;
+          says = subst (λ (x : List ℕ). grammar.WellWritten I8 x (number_written (pos n) (pos 0))) (sym count_bytes) q.says;
           least = q.least;
           most = q.most;
         })
@@ -191,7 +190,7 @@ module _ (bs : List ℕ) (a : Accepted volume bs) where
   )
 
 -- agrees exactly where the directory is accepted and the list is its pointers' counts
-pub set_agrees : (bs cs : List ℕ) → (set_of bs cs ≡ Agrees) ↔ ((a : Accepted volume bs) × Counts a.plan.pointers a.rest cs)
+pub set_agrees : (bs cs : List ℕ) → (set_of bs cs ≡ Ok tt) ↔ ((a : Accepted volume bs) × Counts a.plan.pointers a.rest cs)
 unfolding set_of
 set_agrees bs cs = (
   λ e.

@@ -7,13 +7,13 @@ use mathlib.Core.List.{List, ◌++◌}
 use mathlib.Core.Bool.{Bool, true, false}
 use native.Mathlib.Nat.{suc-add}
 use lib.ListN.{drop}
+use Rattle.std.specs.Prelude.{Ok, Err}
 use Rattle.words.specs.declared.Refusal.{Refusal}
 use Rattle.walk.specs.State.{good_state, next_due}
 use Rattle.walk.specs.Walk.{turn_of, next_of, stopped, more, walk_of}
 use Rattle.walk.specs.declared.State.{State}
 use Rattle.turns.specs.declared.Stop.{Stop}
 use Rattle.turns.specs.declared.Stop.TheVariants.{Pause, Refused}
-use Rattle.turns.specs.declared.Turn.TheVariants.{Pass, Halt}
 use Rattle.walk.specs.declared.Walked.{Walked}
 use Rattle.walk.proofs.LoopLaws.{walk_bad, walk_halt, walk_pass}
 use Rattle.promises.proofs.Steps.{by_turns}
@@ -24,13 +24,13 @@ Stays : ℕ → State → List ℕ → Walked → ℕ → Type 0
 Stays n st b w u = (x : Refusal) → w.stop ≡ Refused x → (ys : List ℕ) (c : Bool) (d : ℕ) → walk_of (n + d) st (b ++ ys) c ≡ w
 
 module _ (n : ℕ) (st : State) (b : List ℕ) (g : good_state st ≡ true) where
-  stays_halt : (z : Stop) → turn_of st b false ≡ Halt z → Stays (suc n) st b (stopped st z) 0
+  stays_halt : (z : Stop) → turn_of st b false ≡ Err z → Stays (suc n) st b (stopped st z) 0
   unfolding Stays
   stays_halt z t x e ys c d =
       rw suc-add
-      (walk_halt st (b ++ ys) c (n + d) z g (turn_refusal_stays st b ys c x (t ∙ ap Halt e) ∙ ap Halt (sym e)))
+      (walk_halt st (b ++ ys) c (n + d) z g (turn_refusal_stays st b ys c x (t ∙ ap Err e) ∙ ap Err (sym e)))
 
-  stays_pass : (w : Walked) (u : ℕ) → turn_of st b false ≡ Pass → Stays n (next_of st b) (drop (next_due st).length b) w u
+  stays_pass : (w : Walked) (u : ℕ) → turn_of st b false ≡ Ok tt → Stays n (next_of st b) (drop (next_due st).length b) w u
       → Stays (suc n) st b (more 1 w) ((next_due st).length + u)
   unfolding Stays
   stays_pass w u t ih x e ys c d =

@@ -10,6 +10,7 @@ use lib.Dec.{eqb, leb, ltb}
 use lib.ListN.{length, take, drop, length-append, get_or-append}
 use lib.Seq.{take-append-le, drop-append-le}
 use borrow.Author.Tests.{eq-eqb, ne_eqb, leb-true, leb-false, ltb-true, ltb-false}
+use Rattle.std.specs.Prelude.{Ok, Err}
 use Rattle.words.specs.Tests.{pick}
 use Rattle.words.specs.Words.{byte_at, two_at, four_at}
 use Rattle.words.specs.declared.Refusal.{Refusal}
@@ -20,36 +21,34 @@ use Rattle.plan.specs.declared.Plan.{Plan}
 use Rattle.plan.specs.declared.Due.{Due}
 use Rattle.bodies.specs.Bodies.{body_of}
 use Rattle.bodies.specs.Named.{plan_of}
-use Rattle.verdicts.specs.declared.Verdict.{Verdict}
-use Rattle.verdicts.specs.declared.Verdict.TheVariants.{Fine, Fault}
 use Rattle.walk.specs.State.{next_due}
 use Rattle.headers.specs.Header.{codes_are, header_tests, header_of}
-use Rattle.turns.specs.Turn.{refused_at, on_fine, judge_of, ended_of, short_of}
+use Rattle.turns.specs.Turn.{refused_at, on_fine, judge_of, ended_of, short_of, Turn}
 use Rattle.walk.specs.Walk.{turn_of, next_of}
 use Rattle.walk.specs.declared.State.{State}
 use Rattle.turns.specs.declared.Stop.{Stop}
 use Rattle.turns.specs.declared.Stop.TheVariants.{Wait, Pause, Complete, Refused}
-use Rattle.turns.specs.declared.Turn.{Turn}
-use Rattle.turns.specs.declared.Turn.TheVariants.{Pass, Halt}
 use Rattle.turns.proofs.TurnLaws.{pass_long, judge_ended, judge_twelve, judge_fault, judge_part, judge_body}
+use Rattle.verdicts.specs.Tests.{Verdict}
 
 -- ---- the stops of a turn
 
-pub pass≢halt : {x : Stop} → Pass ≡ Halt x → ⊥
-pass≢halt e = let z : ◌≡◌ {A = ℕ} 0 1 = cc in omega arith
+pub pass≢halt : {x : Stop} → ◌≡◌ {A = Turn} (Ok tt) (Err x) → ⊥
+pass≢halt e = cc
 
-pub halt_same : {x y : Stop} → Halt x ≡ Halt y → x ≡ y
+pub halt_same : {x y : Stop} → ◌≡◌ {A = Turn} (Err x) (Err y) → x ≡ y
 halt_same e = cc
 
 module _ (Q : Stop → Type 0) (o a : ℕ) (s₁ s₂ s₃ : Stop) (q₁ : Q s₁) (q₂ : Q s₂) (q₃ : Q s₃) (x : Stop) where
-  halts : (i j k : Bool) (h t : Verdict) → ((n p : ℕ) → h ≡ Fault n p → Q (refused_at o a n p)) → ((n p : ℕ) → t ≡ Fault n p → Q (refused_at o a n p))
-      → pick i (Halt s₁) (pick j (Halt s₂) (on_fine h o a (pick k (Halt s₃) (on_fine t o a Pass)))) ≡ Halt x → Q x
+  halts : (i j k : Bool) (h t : Verdict) → ((y : Refusal) → h ≡ Err y → Q (refused_at o a y.number y.place))
+      → ((y : Refusal) → t ≡ Err y → Q (refused_at o a y.number y.place))
+      → pick i (Err s₁) (pick j (Err s₂) (on_fine h o a (pick k (Err s₃) (on_fine t o a (Ok tt))))) ≡ Err x → Q x
   halts true j k h t qh qt e = subst Q (halt_same e) q₁
   halts false true k h t qh qt e = subst Q (halt_same e) q₂
-  halts false false k (Fault n p) t qh qt e = subst Q (halt_same e) (qh n p refl)
-  halts false false true Fine t qh qt e = subst Q (halt_same e) q₃
-  halts false false false Fine (Fault n p) qh qt e = subst Q (halt_same e) (qt n p refl)
-  halts false false false Fine Fine qh qt e = absurd (pass≢halt e)
+  halts false false k (Err y) t qh qt e = subst Q (halt_same e) (qh y refl)
+  halts false false true (Ok u) t qh qt e = subst Q (halt_same e) q₃
+  halts false false false (Ok u) (Err y) qh qt e = subst Q (halt_same e) (qt y refl)
+  halts false false false (Ok u) (Ok v) qh qt e = absurd (pass≢halt e)
 
 -- a stop of too many or too few bytes
 ended_is : (Q : Stop → Type 0) (o a n : ℕ) (c : Bool) → Q (pick c Complete (Wait 0)) → Q (refused_at o a 9 0) → Q (ended_of o a n c)
@@ -69,11 +68,11 @@ module _ (Q : Stop → Type 0) (st : State) (b : List ℕ) (c : Bool) (x : Stop)
   -- a halting turn's stop has the property Q where each of the stops that it can be has it
   pub halt_of : Q (pick c Complete (Wait 0)) → ((n : ℕ) → Q (Wait n)) → Q (refused_at (st.passed + 1) (next_due st).start 9 0)
       → Q (refused_at (st.passed + 1) (next_due st).start 2 0)
-      → ((n p : ℕ) → header_of (st.passed + 1) (next_due st).codes (next_due st).length b ≡ Fault n p
-      → Q (refused_at (st.passed + 1) (next_due st).start n p))
-      → ((n p : ℕ) → body_of st.kind (next_due st).run st.plan st.passed (take (next_due st).length b) ≡ Fault n p
-      → Q (refused_at (st.passed + 1) (next_due st).start n p))
-      → turn_of st b c ≡ Halt x → Q x
+      → ((y : Refusal) → header_of (st.passed + 1) (next_due st).codes (next_due st).length b ≡ Err y
+      → Q (refused_at (st.passed + 1) (next_due st).start y.number y.place))
+      → ((y : Refusal) → body_of st.kind (next_due st).run st.plan st.passed (take (next_due st).length b) ≡ Err y
+      → Q (refused_at (st.passed + 1) (next_due st).start y.number y.place))
+      → turn_of st b c ≡ Err x → Q x
   unfolding judge_of
   halt_of qc qw q9 q2 qh qb e =
       let o : ℕ = st.passed + 1 in
@@ -87,42 +86,42 @@ module _ (Q : Stop → Type 0) (st : State) (b : List ℕ) (c : Bool) (x : Stop)
       (body_of st.kind (next_due st).run st.plan st.passed (take (next_due st).length b)) qh qb e
 
   pub halt_is : Q (pick c Complete (Wait 0)) → ((n : ℕ) → Q (Wait n)) → ((n p : ℕ) → Q (refused_at (st.passed + 1) (next_due st).start n p))
-      → turn_of st b c ≡ Halt x → Q x
-  halt_is qc qw qr e = halt_of qc qw (qr 9 0) (qr 2 0) (λ n p h. qr n p) (λ n p h. qr n p) e
+      → turn_of st b c ≡ Err x → Q x
+  halt_is qc qw qr e = halt_of qc qw (qr 9 0) (qr 2 0) (λ y h. qr y.number y.place) (λ y h. qr y.number y.place) e
 
 pub wait≢pause : {n : ℕ} → Wait n ≡ Pause → ⊥
-wait≢pause e = let z : ◌≡◌ {A = ℕ} 0 1 = cc in omega arith
+wait≢pause e = cc
 
 pub wait≢complete : {n : ℕ} → Wait n ≡ Complete → ⊥
-wait≢complete e = let z : ◌≡◌ {A = ℕ} 0 1 = cc in omega arith
+wait≢complete e = cc
 
 pub wait≢refused : {n : ℕ} {x : Refusal} → Wait n ≡ Refused x → ⊥
-wait≢refused e = let z : ◌≡◌ {A = ℕ} 0 1 = cc in omega arith
+wait≢refused e = cc
 
 pub complete≢pause : Complete ≡ Pause → ⊥
-complete≢pause e = let z : ◌≡◌ {A = ℕ} 0 1 = cc in omega arith
+complete≢pause e = cc
 
 pub complete≢refused : {x : Refusal} → Complete ≡ Refused x → ⊥
-complete≢refused e = let z : ◌≡◌ {A = ℕ} 0 1 = cc in omega arith
+complete≢refused e = cc
 
 pub pause≢complete : Pause ≡ Complete → ⊥
-pause≢complete e = let z : ◌≡◌ {A = ℕ} 0 1 = cc in omega arith
+pause≢complete e = cc
 
 pub pause≢refused : {x : Refusal} → Pause ≡ Refused x → ⊥
-pause≢refused e = let z : ◌≡◌ {A = ℕ} 0 1 = cc in omega arith
+pause≢refused e = cc
 
 pub refused≢pause : {x : Refusal} → Refused x ≡ Pause → ⊥
-refused≢pause e = let z : ◌≡◌ {A = ℕ} 0 1 = cc in omega arith
+refused≢pause e = cc
 
 pub refused≢complete : {x : Refusal} → Refused x ≡ Complete → ⊥
-refused≢complete e = let z : ◌≡◌ {A = ℕ} 0 1 = cc in omega arith
+refused≢complete e = cc
 
 pub refused_same : {x y : Refusal} → Refused x ≡ Refused y → x ≡ y
 refused_same e = cc
 
 module _ (st : State) (b : List ℕ) where
   -- a turn never pauses
-  pub never_pause : (c : Bool) (x : Stop) → turn_of st b c ≡ Halt x → x ≡ Pause → ⊥
+  pub never_pause : (c : Bool) (x : Stop) → turn_of st b c ≡ Err x → x ≡ Pause → ⊥
   never_pause c x = halt_is (λ y. y ≡ Pause → ⊥) st b c x (closing c) (λ n. wait≢pause) (λ n p. refused≢pause)
     where
       closing : (c : Bool) → pick c Complete (Wait 0) ≡ Pause → ⊥
@@ -130,11 +129,11 @@ module _ (st : State) (b : List ℕ) where
       closing false = wait≢pause
 
   -- an open turn does not say complete
-  pub open_turn : (x : Stop) → turn_of st b false ≡ Halt x → x ≡ Complete → ⊥
+  pub open_turn : (x : Stop) → turn_of st b false ≡ Err x → x ≡ Complete → ⊥
   open_turn x = halt_is (λ y. y ≡ Complete → ⊥) st b false x wait≢complete (λ n. wait≢complete) (λ n p. refused≢complete)
 
   -- a turn's refusal is of the next record
-  pub turn_ordinal : (c : Bool) (x : Stop) → turn_of st b c ≡ Halt x → (y : Refusal) → x ≡ Refused y → y.«record» ≡ st.passed + 1
+  pub turn_ordinal : (c : Bool) (x : Stop) → turn_of st b c ≡ Err x → (y : Refusal) → x ≡ Refused y → y.«record» ≡ st.passed + 1
   turn_ordinal c x =
       halt_is (λ z. (y : Refusal) → z ≡ Refused y → y.«record» ≡ st.passed + 1) st b c x (closing c) (λ n y e. absurd (wait≢refused e))
       (λ n p y e. ap (λ (r : Refusal). r.«record») (sym (refused_same e)))
@@ -147,11 +146,11 @@ module _ (st : State) (b : List ℕ) where
 
 -- whether a turn has settled the record: it passes or is refused
 abbrev pub settled : Turn → Bool
-settled Pass = true
-settled (Halt (Refused x)) = true
-settled (Halt (Wait n)) = false
-settled (Halt Pause) = false
-settled (Halt Complete) = false
+settled (Ok u) = true
+settled (Err (Refused x)) = true
+settled (Err (Wait n)) = false
+settled (Err Pause) = false
+settled (Err Complete) = false
 
 -- the header is the first twelve bytes
 module _ (b ys : List ℕ) where
@@ -188,15 +187,15 @@ module _ (kind : ℕ) (p : Plan) (k : ℕ) (s : Due) (b ys : List ℕ) (c : Bool
   longer : length b ≤ length (b ++ ys)
   longer = omega (arith, length-append b ys)
 
-  unsettled : (n : ℕ) → judge_of kind p k s b false ≡ Halt (Wait n) → ⊥
+  unsettled : (n : ℕ) → judge_of kind p k s b false ≡ Err (Wait n) → ⊥
   unsettled n h = false≢true (sym (ap settled h) ∙ e)
 
   over : total_of kind p ≤ k → judge_of kind p k s (b ++ ys) c ≡ judge_of kind p k s b false
   over h =
-      let some : length b ≡ 0 → ⊥ = λ z. unsettled 0 (judge_ended kind p k s b false h ∙ ap Halt (ended_none s.ordinal s.start (length b) z)) in
+      let some : length b ≡ 0 → ⊥ = λ z. unsettled 0 (judge_ended kind p k s b false h ∙ ap Err (ended_none s.ordinal s.start (length b) z)) in
       let more : length (b ++ ys) ≡ 0 → ⊥ = λ z. some (omega (arith, longer)) in
       judge_ended kind p k s (b ++ ys) c h
-      ∙ ap Halt (ended_left s.ordinal s.start (length (b ++ ys)) c more ∙ sym (ended_left s.ordinal s.start (length b) false some))
+      ∙ ap Err (ended_left s.ordinal s.start (length (b ++ ys)) c more ∙ sym (ended_left s.ordinal s.start (length b) false some))
       ∙ sym (judge_ended kind p k s b false h)
 
   module _ (going : k < total_of kind p) (twelve : 12 ≤ length b) where
@@ -207,22 +206,22 @@ module _ (kind : ℕ) (p : Plan) (k : ℕ) (s : Due) (b ys : List ℕ) (c : Bool
     heads = header_front b ys twelve s.ordinal s.codes s.length
 
     by_header : (v : Verdict) → header_of s.ordinal s.codes s.length b ≡ v → judge_of kind p k s (b ++ ys) c ≡ judge_of kind p k s b false
-    by_header (Fault n a) q =
-        judge_fault kind p k s (b ++ ys) c going twelve_more n a (heads ∙ q)
-        ∙ sym (judge_fault kind p k s b false going twelve n a q)
-    by_header Fine q = ⊎_elim part whole (cases (ltb (length b) s.length))
+    by_header (Err x) q =
+        judge_fault kind p k s (b ++ ys) c going twelve_more x (heads ∙ q)
+        ∙ sym (judge_fault kind p k s b false going twelve x q)
+    by_header (Ok u) q = ⊎_elim part whole (cases (ltb (length b) s.length))
       where
         part : ltb (length b) s.length ≡ true → judge_of kind p k s (b ++ ys) c ≡ judge_of kind p k s b false
         part z =
             absurd
             (unsettled (s.length - length b)
-            (judge_part kind p k s b false going twelve q (ltb-true _ _ z) ∙ ap Halt (short_open s.ordinal s.start (s.length - length b))))
+            (judge_part kind p k s b false going twelve q (ltb-true _ _ z) ∙ ap Err (short_open s.ordinal s.start (s.length - length b))))
 
         whole : ltb (length b) s.length ≡ false → judge_of kind p k s (b ++ ys) c ≡ judge_of kind p k s b false
         whole z =
             let l : s.length ≤ length b = ltb-false (length b) s.length z in
             judge_body kind p k s (b ++ ys) c going twelve_more (heads ∙ q) (omega (arith, longer))
-            ∙ ap (λ (r : List ℕ). on_fine (body_of kind s.run p k r) s.ordinal s.start Pass) (take-append-le s.length b ys l)
+            ∙ ap (λ (r : List ℕ). on_fine (body_of kind s.run p k r) s.ordinal s.start (Ok tt)) (take-append-le s.length b ys l)
             ∙ sym (judge_body kind p k s b false going twelve q l)
 
   judge_stays : judge_of kind p k s (b ++ ys) c ≡ judge_of kind p k s b false
@@ -233,12 +232,12 @@ module _ (kind : ℕ) (p : Plan) (k : ℕ) (s : Due) (b ys : List ℕ) (c : Bool
       ⊎_elim
       (λ y.
       absurd
-      (unsettled (12 - length b) (judge_twelve kind p k s b false going (ltb-true _ _ y) ∙ ap Halt (short_open s.ordinal s.start (12 - length b)))))
+      (unsettled (12 - length b) (judge_twelve kind p k s b false going (ltb-true _ _ y) ∙ ap Err (short_open s.ordinal s.start (12 - length b)))))
       (λ y. by_header going (ltb-false (length b) 12 y) _ refl) (cases (ltb (length b) 12)))
       (cases (leb (total_of kind p) k))
 
 -- a record that passes lies within the bytes
-pub turn_room : (st : State) (b : List ℕ) (c : Bool) → turn_of st b c ≡ Pass → (next_due st).length ≤ length b
+pub turn_room : (st : State) (b : List ℕ) (c : Bool) → turn_of st b c ≡ Ok tt → (next_due st).length ≤ length b
 turn_room st b c e = pass_long st.kind st.plan st.passed (next_due st) b c e
 
 module _ (st : State) (b ys : List ℕ) where
@@ -246,18 +245,18 @@ module _ (st : State) (b ys : List ℕ) where
   pub turn_stays : (c : Bool) → settled (turn_of st b false) ≡ true → turn_of st (b ++ ys) c ≡ turn_of st b false
   turn_stays c e = judge_stays st.kind st.plan st.passed (next_due st) b ys c e
 
-  pub turn_refusal_stays : (c : Bool) (x : Refusal) → turn_of st b false ≡ Halt (Refused x) → turn_of st (b ++ ys) c ≡ Halt (Refused x)
+  pub turn_refusal_stays : (c : Bool) (x : Refusal) → turn_of st b false ≡ Err (Refused x) → turn_of st (b ++ ys) c ≡ Err (Refused x)
   turn_refusal_stays c x e = turn_stays c (ap settled e) ∙ e
 
-  pub turn_pass_stays : (c : Bool) → turn_of st b false ≡ Pass → turn_of st (b ++ ys) c ≡ Pass
+  pub turn_pass_stays : (c : Bool) → turn_of st b false ≡ Ok tt → turn_of st (b ++ ys) c ≡ Ok tt
   turn_pass_stays c e = turn_stays c (ap settled e) ∙ e
 
   -- the state behind a passed record, and the bytes behind it
-  pub next_stays : turn_of st b false ≡ Pass → next_of st (b ++ ys) ≡ next_of st b
+  pub next_stays : turn_of st b false ≡ Ok tt → next_of st (b ++ ys) ≡ next_of st b
   unfolding next_of
   next_stays e =
       ap (λ (r : List ℕ). record { kind = st.kind; passed = st.passed + 1; plan = pick (eqb st.passed 0) (plan_of st.kind r) st.plan })
       (take-append-le (next_due st).length b ys (turn_room st b false e))
 
-  pub rest_stays : turn_of st b false ≡ Pass → drop (next_due st).length (b ++ ys) ≡ drop (next_due st).length b ++ ys
+  pub rest_stays : turn_of st b false ≡ Ok tt → drop (next_due st).length (b ++ ys) ≡ drop (next_due st).length b ++ ys
   rest_stays e = drop-append-le (next_due st).length b ys (turn_room st b false e)

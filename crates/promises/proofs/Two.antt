@@ -9,6 +9,7 @@ use lib.Dec.{eqb, leb, ltb}
 use lib.ListN.{length, take, drop}
 use lib.Seq.{length-take-le, drop-drop}
 use borrow.Author.Tests.{eqb-true, eqb-false, ne_eqb, leb-true, leb-false, ltb-true, ltb-false}
+use Rattle.std.specs.Prelude.{Ok, Err}
 use Rattle.words.specs.Tests.{pick}
 use Rattle.words.specs.declared.Refusal.{Refusal}
 use Rattle.words.proofs.Laws.{cases, within_true}
@@ -19,12 +20,9 @@ use Rattle.plan.specs.declared.Due.{Due}
 use Rattle.plan.specs.declared.Spot.{Spot}
 use Rattle.plan.proofs.CodeLaws.{spot_first}
 use Rattle.bodies.specs.Bodies.{body_of}
-use Rattle.verdicts.specs.declared.Verdict.{Verdict}
-use Rattle.verdicts.specs.declared.Verdict.TheVariants.{Fine, Fault}
 use Rattle.headers.specs.Header.{header_of}
-use Rattle.turns.specs.Turn.{refused_at, on_fine, ended_of, short_of}
+use Rattle.turns.specs.Turn.{Turn, refused_at, on_fine, ended_of, short_of}
 use Rattle.turns.specs.declared.Stop.TheVariants.{Wait, Complete, Refused}
-use Rattle.turns.specs.declared.Turn.TheVariants.{Pass, Halt}
 use Rattle.turns.proofs.TurnLaws.{judge_ended, judge_twelve, judge_fault, judge_part, judge_body}
 use Rattle.turns.proofs.FaultLaws.{FaultCan, need_of, header_can, body_can}
 use Rattle.walk.specs.State.{good_state, next_due}
@@ -32,6 +30,7 @@ use Rattle.walk.specs.Walk.{turn_of, walk_of}
 use Rattle.walk.specs.declared.State.{State}
 use Rattle.walk.proofs.GoodLaws.{good_known, good_later}
 use Rattle.walk.proofs.TurnLaws.{good_next}
+use Rattle.verdicts.specs.Tests.{Verdict}
 use Rattle.promises.specs.Rules.{Kind, volume, leader, image, trailer, kind_number}
 use Rattle.promises.specs.Pieces.{used_of}
 use Rattle.promises.proofs.BodyIs.{Long}
@@ -99,27 +98,27 @@ need_is st g r h =
 abbrev Cut : Bool → ℕ → ℕ → Type 0
 Cut c here long = (c ≡ true) × (here < long)
 
-short_two : (o a n : ℕ) (c : Bool) (x : Refusal) → Halt (short_of o a c n) ≡ Halt (Refused x) → c ≡ true
+short_two : (o a n : ℕ) (c : Bool) (x : Refusal) → ◌≡◌ {A = Turn} (Err (short_of o a c n)) (Err (Refused x)) → c ≡ true
 unfolding short_of
 short_two o a n true x e = refl
 short_two o a n false x e = absurd (wait≢refused (halt_same e))
 
-ended_two : (o a n : ℕ) (c : Bool) (x : Refusal) → Halt (ended_of o a n c) ≡ Halt (Refused x) → x.number ≡ 2 → ⊥
+ended_two : (o a n : ℕ) (c : Bool) (x : Refusal) → ◌≡◌ {A = Turn} (Err (ended_of o a n c)) (Err (Refused x)) → x.number ≡ 2 → ⊥
 unfolding ended_of
 ended_two o a n c x = go (eqb n 0) c
   where
-    go : (z c : Bool) → Halt (pick z (pick c Complete (Wait 0)) (refused_at o a 9 0)) ≡ Halt (Refused x) → x.number ≡ 2 → ⊥
+    go : (z c : Bool) → ◌≡◌ {A = Turn} (Err (pick z (pick c Complete (Wait 0)) (refused_at o a 9 0))) (Err (Refused x)) → x.number ≡ 2 → ⊥
     go true true e t = complete≢refused (halt_same e)
     go true false e t = wait≢refused (halt_same e)
     go false c e t = let n = ap (λ (r : Refusal). r.number) (refused_same (halt_same e)) in omega arith
 
 -- a fault that is 2
-fault_two : (need : ℕ) (r : List ℕ) (v : Verdict) (o a : ℕ) (x : Refusal) → FaultCan need r v → on_fine v o a Pass ≡ Halt (Refused x) → x.number ≡ 2
-    → length r < need
-fault_two need r Fine o a x f e t = absurd (pass≢halt e)
-fault_two need r (Fault n at) o a x f e t = f.short (ap (λ (r : Refusal). r.number) (refused_same (halt_same e)) ∙ t)
+fault_two : (need : ℕ) (r : List ℕ) (v : Verdict) (o a : ℕ) (x : Refusal) → FaultCan need r v → on_fine v o a (Ok tt) ≡ Err (Refused x)
+    → x.number ≡ 2 → length r < need
+fault_two need r (Ok u) o a x f e t = absurd (pass≢halt e)
+fault_two need r (Err y) o a x f e t = f.short (ap (λ (r : Refusal). r.number) (refused_same (halt_same e)) ∙ t)
 
-pub turn_two : (st : State) (b : List ℕ) (c : Bool) (x : Refusal) → good_state st ≡ true → Rows st → turn_of st b c ≡ Halt (Refused x) → x.number ≡ 2
+pub turn_two : (st : State) (b : List ℕ) (c : Bool) (x : Refusal) → good_state st ≡ true → Rows st → turn_of st b c ≡ Err (Refused x) → x.number ≡ 2
     → Cut c (length b) (next_due st).length
 turn_two st b c x g r e t =
     ⊎_elim (λ h. absurd (ended_two _ _ _ c x (sym (judge_ended _ _ _ s b c (leb-true _ _ h)) ∙ e) t)) (λ h. going (leb-false _ _ h))
@@ -128,7 +127,7 @@ turn_two st b c x g r e t =
     s : Due
     s = next_due st
 
-    whole : st.passed < total_of st.kind st.plan → 12 ≤ length b → header_of (st.passed + 1) s.codes s.length b ≡ Fine
+    whole : st.passed < total_of st.kind st.plan → 12 ≤ length b → header_of (st.passed + 1) s.codes s.length b ≡ Ok tt
         → s.length ≤ length b → ⊥
     whole o w f l =
         let long = length-take-le s.length b l in
@@ -137,7 +136,7 @@ turn_two st b c x g r e t =
         (body_can st.kind s.run st.plan st.passed (take s.length b)) (sym (judge_body st.kind st.plan st.passed s b c o w f l) ∙ e) t in
         omega (arith, need_is st g r o)
 
-    headed : st.passed < total_of st.kind st.plan → 12 ≤ length b → header_of (st.passed + 1) s.codes s.length b ≡ Fine
+    headed : st.passed < total_of st.kind st.plan → 12 ≤ length b → header_of (st.passed + 1) s.codes s.length b ≡ Ok tt
         → Cut c (length b) s.length
     headed o w f =
         ⊎_elim
@@ -147,10 +146,10 @@ turn_two st b c x g r e t =
 
     judged : st.passed < total_of st.kind st.plan → 12 ≤ length b → (v : Verdict)
         → header_of (st.passed + 1) s.codes s.length b ≡ v → Cut c (length b) s.length
-    judged o w Fine f = headed o w f
-    judged o w (Fault n at) f =
-        let j = judge_fault st.kind st.plan st.passed s b c o w n at f in
-        absurd (omega (arith, fault_two 0 b (Fault n at) _ _ x (subst (FaultCan 0 b) f (header_can _ _ _ b)) (sym j ∙ e) t))
+    judged o w (Ok u) f = headed o w f
+    judged o w (Err y) f =
+        let j = judge_fault st.kind st.plan st.passed s b c o w y f in
+        absurd (omega (arith, fault_two 0 b (Err y) _ _ x (subst (FaultCan 0 b) f (header_can _ _ _ b)) (sym j ∙ e) t))
 
     going : st.passed < total_of st.kind st.plan → Cut c (length b) s.length
     going o =
@@ -169,5 +168,5 @@ two b st bs c =
     by_turns c
     (λ n s y w u. good_state s ≡ true → Rows s → (x : Refusal) → w.stop ≡ Refused x → x.number ≡ 2 → Cut c (length (drop u y)) (next_due w.state).length)
     (λ n s y g h r x e t. absurd (false≢true (sym g ∙ h))) (λ s y g h r x e t. absurd (pause≢refused e))
-    (λ n s y z g o h r x e t. turn_two s y c x h r (o ∙ ap Halt e) t)
+    (λ n s y z g o h r x e t. turn_two s y c x h r (o ∙ ap Err e) t)
     (λ n s y w u g o i h r x e t. rw (← drop-drop u (next_due s).length y) (i (good_next s y c h o) (rows_next s y r) x e t)) b st bs

@@ -1,24 +1,23 @@
 -- `wider`: an edition that allows more accepts every file that a narrower one accepts, with the same plan. Each rule of the narrower edition gives the wider
 -- one's, record by record; the records behind the first are the same, one by one.
-use Prim.Native.Nat.{ℕ, zero, suc, ◌+◌, ◌*◌, ◌≤◌}
+use Prim.Native.Nat.{ℕ, zero, suc, ◌+◌, ◌*◌}
 use mathlib.Core.Path.{◌≡◌, refl, ap, ◌∙◌, subst}
 use mathlib.Core.List.{List, [], ◌∷◌, ◌++◌}
 use native.Mathlib.Omega.{arith}
 use lib.ListN.{get_or, replicate}
 use lib.IntN.{pos}
 use Rattle.words.specs.Words.{place_of}
+use Rattle.decimal.specs.Written.{Written, number_written, blank as blank_written}
 use Rattle.decimal.specs.declared.Form.{Form}
 use Rattle.decimal.specs.declared.Form.TheVariants.{I6, I16, F8d3, F16d7, E20d13}
-use Rattle.decimal.specs.declared.Written.{Written}
-use Rattle.decimal.specs.declared.Written.TheVariants.{Number, Blank}
 use Rattle.decimal.proofs.Wider as grammar
 use Rattle.fields.specs.Field.{field_bytes}
 use Rattle.plan.specs.declared.Plan.{Plan}
 use Rattle.promises.specs.Edition.{Edition, base, newest, Wider}
 use Rattle.promises.specs.Rules.{Kind, volume, leader, image, trailer, Due, Record, Follow}
-use Rattle.promises.specs.Rules.{text_record, slot_records, facility_records, slot_due, facility_due}
-use Rattle.promises.specs.Rules.{free, Says, Numbered, Readable, Pair, blank, none, some, VolumeDescriptor, Pointer, LeaderDescriptor, Summary, Map}
-use Rattle.promises.specs.Rules.{ImageDescriptor, First, promised, Accepted, pointer, line_due}
+use Rattle.promises.specs.Rules.{text_record, slot_records, facility_records, slot_due}
+use Rattle.promises.specs.Rules.{free, Says, Numbered, Readable, Pair, blank, none, some, Pointer, Summary, Map}
+use Rattle.promises.specs.Rules.{First, promised, Accepted, pointer}
 use Rattle.promises.specs.Newest as now
 
 -- ---- records that are due, one by one
@@ -83,11 +82,11 @@ module _ (e f : Edition) (w : Wider e f) where
   readable r byte k x = (x.0, says r byte k x.0 x.1)
 
   numbered : {r : List ℕ} {byte : ℕ} {k : Form} {lo hi n : ℕ} → Numbered e r byte k lo hi n → Numbered f r byte k lo hi n
-  numbered {r} {byte} {k} {n = n} x = record { says = says r byte k (Number (pos n) (pos 0)) x.says; least = x.least; most = x.most }
+  numbered {r} {byte} {k} {n = n} x = record { says = says r byte k (number_written (pos n) (pos 0)) x.says; least = x.least; most = x.most }
 
   paired : {r : List ℕ} {byte : ℕ} {k : Form} {least most shortest longest count long : ℕ} → Pair e r byte k least most shortest longest count long
       → Pair f r byte k least most shortest longest count long
-  paired {r} {byte} (blank s h) = blank (says r byte I6 Blank s) h
+  paired {r} {byte} (blank s h) = blank (says r byte I6 blank_written s) h
   paired (none n) = none (numbered n)
   paired (some n l) = some (numbered n) (numbered l)
 

@@ -8,11 +8,11 @@ use native.Mathlib.Omega.{arith}
 use lib.Dec.{ltb, leb, eqb}
 use lib.ListN.{length, get_or, replicate, length-replicate}
 use borrow.Author.Tests.{ltb-true, ltb-false, leb-true, ne_eqb, eq-eqb}
+use Rattle.std.specs.Prelude.{Ok}
 use Rattle.words.specs.Tests.{pick, both_of, within_of}
 use Rattle.words.specs.Words.{place_of, two_at, four_at}
 use Rattle.words.proofs.Laws.{both_l, both_r, within_true}
 use Rattle.words.proofs.Table.{every_at}
-use Rattle.decimal.specs.Text.{bytes}
 use Rattle.digits.specs.Segments.{mantissa_of}
 use Rattle.decimal.specs.Scan.{number_in, decimal_of, written}
 use Rattle.fields.specs.Field.{field_at}
@@ -33,7 +33,6 @@ use Rattle.volume.specs.Volume.{class_text, pointer_numbers, pointer_tests, volu
 use Rattle.leader.specs.Leader.{fields_tests, leader_record}
 use Rattle.image.specs.Image.{line_tests, image_record}
 use Rattle.bodies.specs.Bodies.{body_tests, body_of}
-use Rattle.verdicts.specs.declared.Verdict.TheVariants.{Fine}
 use Rattle.verdicts.proofs.Holding.{Holds, holds_fine}
 use Rattle.headers.specs.Header.{header_of}
 use Rattle.promises.specs.Bytes.{Bytes}
@@ -74,13 +73,13 @@ record Passing (kind : ℕ) (p : Plan) (k run long : ℕ) : Type 0 where
   bytes : Bytes made
   twelve : 12 ≤ long
   size : length made ≡ long
-  head : header_of (k + 1) (codes_of kind p run) long made ≡ Fine
-  body : body_of kind run p k made ≡ Fine
+  head : header_of (k + 1) (codes_of kind p run) long made ≡ Ok tt
+  body : body_of kind run p k made ≡ Ok tt
 
 -- put together of a header and what follows it
 module _ (kind : ℕ) (p : Plan) (k run long : ℕ) (rest : List ℕ) where
   put : k < records_most + 1 → long ≤ 99999999 → Small (codes_of kind p run) → Bytes rest → 12 + length rest ≡ long
-      → body_of kind run p k (made (k + 1) (codes_of kind p run) long rest) ≡ Fine → Passing kind p k run long
+      → body_of kind run p k (made (k + 1) (codes_of kind p run) long rest) ≡ Ok tt → Passing kind p k run long
   put hk hl c b e f =
       record {
         made = made (k + 1) (codes_of kind p run) long rest;
@@ -96,7 +95,7 @@ module _ (kind : ℕ) (p : Plan) (k run long : ℕ) (rest : List ℕ) where
 module _ (n : ℕ) (c : Codes) (long : ℕ) where
   pointer_body_lem : (a b : Bool)
       → first_fault (text_test (made n c long (pointer_rest (class_bytes a b))) 65 (class_bytes a b)
-      ∷ numbers_tests (made n c long (pointer_rest (class_bytes a b))) pointer_numbers) ≡ Fine
+      ∷ numbers_tests (made n c long (pointer_rest (class_bytes a b))) pointer_numbers) ≡ Ok tt
   unfolding class_bytes pointer_rest pointer_parts numbers_tests first_fault text_at field_at place_of mantissa_of number_in decimal_of written made four
   pointer_body_lem true b = refl
   pointer_body_lem false true = refl
@@ -140,18 +139,18 @@ module _ (p : Plan) (k : ℕ) (hk : k < records_most + 1) where
 -- ---- leader: blanks
 
 module _ (p : Plan) (k n : ℕ) (c : Codes) where
-  summary_body_lem : body_of 2 1 p k (made n c 4096 (replicate 4084 32)) ≡ Fine
+  summary_body_lem : body_of 2 1 p k (made n c 4096 (replicate 4084 32)) ≡ Ok tt
   unfolding body_of body_tests leader_record fields_tests first_fault field_at place_of decimal_of written made four
   summary_body_lem = refl
 
-  map_body_lem : body_of 2 2 p k (made n c 1620 (replicate 1608 32)) ≡ Fine
+  map_body_lem : body_of 2 2 p k (made n c 1620 (replicate 1608 32)) ≡ Ok tt
   unfolding body_of body_tests leader_record fields_tests first_fault field_at place_of decimal_of written made four
   map_body_lem = refl
 
-  slot_body : (j long : ℕ) → (j ≡ 0 → long ≡ 4096) → (j ≡ 1 → long ≡ 1620) → body_of 2 (suc j) p k (made n c long (replicate (long - 12) 32)) ≡ Fine
+  slot_body : (j long : ℕ) → (j ≡ 0 → long ≡ 4096) → (j ≡ 1 → long ≡ 1620) → body_of 2 (suc j) p k (made n c long (replicate (long - 12) 32)) ≡ Ok tt
   unfolding body_of body_tests leader_record first_fault
-  slot_body zero long a b = subst (λ (l : ℕ). body_of 2 1 p k (made n c l (replicate (l - 12) 32)) ≡ Fine) (sym (a refl)) summary_body_lem
-  slot_body (suc zero) long a b = subst (λ (l : ℕ). body_of 2 2 p k (made n c l (replicate (l - 12) 32)) ≡ Fine) (sym (b refl)) map_body_lem
+  slot_body zero long a b = subst (λ (l : ℕ). body_of 2 1 p k (made n c l (replicate (l - 12) 32)) ≡ Ok tt) (sym (a refl)) summary_body_lem
+  slot_body (suc zero) long a b = subst (λ (l : ℕ). body_of 2 2 p k (made n c l (replicate (l - 12) 32)) ≡ Ok tt) (sym (b refl)) map_body_lem
   slot_body (suc (suc j)) long a b =
       simp (ne_eqb (suc (suc (suc j))) 0 (λ z. omega arith), ne_eqb (suc (suc (suc j))) 1 (λ z. omega arith), ne_eqb (suc (suc (suc j))) 2 (λ z. omega arith))
 
@@ -231,7 +230,7 @@ module _ (p : Plan) (k n : ℕ) (c : Codes) where
   unfolding line_tests
   line_holds_lem = (eq-eqb _ _ line_number, (eq-eqb _ _ line_index, (eq-eqb _ _ line_fills, tt)))
 
-  line_body_lem : body_of 3 1 p k (made n c p.l (line_rest p k)) ≡ Fine
+  line_body_lem : body_of 3 1 p k (made n c p.l (line_rest p k)) ≡ Ok tt
   unfolding body_of body_tests image_record
   line_body_lem = holds_fine (line_tests p.w k (made n c p.l (line_rest p k))) line_holds_lem
 
@@ -315,8 +314,8 @@ module _ (p : Plan) (c : length p.counts ≡ rows) (l : length p.lengths ≡ row
 pub later_some : (kind : ℕ) (p : Plan) (k : ℕ) → 1 ≤ kind → kind ≤ 4 → plan_good kind p ≡ true → length p.counts ≡ rows → length p.lengths ≡ rows
     → 1 ≤ k → k < total_of kind p
     → (r : List ℕ) × Bytes r × (length r ≡ (due_of kind p k).length)
-    × (header_of (due_of kind p k).ordinal (due_of kind p k).codes (due_of kind p k).length r ≡ Fine)
-    × (body_of kind (due_of kind p k).run p k r ≡ Fine)
+    × (header_of (due_of kind p k).ordinal (due_of kind p k).codes (due_of kind p k).length r ≡ Ok tt)
+    × (body_of kind (due_of kind p k).run p k r ≡ Ok tt)
 later_some kind p k a b g c l h m =
     let x = passing p c l kind k a b g h m in
     (x.made, x.bytes, x.size, x.head, x.body)

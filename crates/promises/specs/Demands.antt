@@ -1,6 +1,6 @@
 -- The demands as predicates over any walk function, so that they can be held against wrong ones; and document 01's wrong programs ("How much each
 -- promise says"). Assumes nothing.
-use Rattle.std.specs.Prelude.{ℕ, zero, suc, ◌+◌, ◌≤◌, ◌<◌, ◌≡◌, ◌↔◌, ◌⊎◌, Bool, true, false, List, eqb, leb, length, get_or, take, drop}
+use Rattle.std.specs.Prelude.{ℕ, zero, suc, ◌+◌, ◌≤◌, ◌<◌, ◌≡◌, ◌↔◌, ◌⊎◌, Bool, true, false, List, eqb, leb, length, get_or, take, drop, Ok}
 use Rattle.words.specs.Tests.{pick, both_of}
 use Rattle.words.specs.declared.Refusal.{Refusal}
 use Rattle.plan.specs.Plan.{total_of, first_length}
@@ -8,14 +8,11 @@ use Rattle.bodies.specs.Named.{plan_of}
 use Rattle.walk.specs.State.{fresh, good_state, next_due}
 use Rattle.walk.specs.Walk.{walk_of, turn_of, next_of, stopped, more, bad_stop, on_turn}
 use Rattle.walk.specs.declared.State.{State}
+use Rattle.turns.specs.Turn.{Turn}
 use Rattle.turns.specs.declared.Stop.TheVariants.{Wait, Pause, Complete, Refused}
-use Rattle.turns.specs.declared.Turn.{Turn}
-use Rattle.turns.specs.declared.Turn.TheVariants.{Pass}
 use Rattle.walk.specs.declared.Walked.{Walked}
 use Rattle.plan.specs.declared.Plan.{Plan}
-use Rattle.copies.specs.Row.{copied_of, row_of}
-use Rattle.copies.specs.declared.Copied.{Copied}
-use Rattle.copies.specs.declared.Copied.TheVariants.{Done}
+use Rattle.copies.specs.Row.{copied_of, row_of, Copied}
 use Rattle.promises.specs.Shown.{Stands, line_record, data_count, data_pixels, sample}
 use Rattle.promises.specs.Rules.{Kind, kind_number}
 use Rattle.promises.specs.Newest.{Accepted}
@@ -57,14 +54,14 @@ RowCopy = List ℕ → ℕ → List ℕ → Copy
 -- demand 2 for rows: of a line of counts that stands there and fits the row, each sample is the one the rules name, high byte first, and later samples stay
 abbrev pub Copies : RowCopy → Type 0
 Copies R = (bs : List ℕ) (k : ℕ) (p : Plan) (row : List ℕ) → Stands bs k p → p.sort ≡ 0 → data_count (line_record p k bs) ≤ length row
-    → ((R bs k row).answer ≡ Done (data_count (line_record p k bs)))
+    → ((R bs k row).answer ≡ Ok (data_count (line_record p k bs)))
     × ((j : ℕ) → j < data_count (line_record p k bs) → get_or (R bs k row).row j 0 ≡ sample (data_pixels p (line_record p k bs)) j)
     × ((j : ℕ) → data_count (line_record p k bs) ≤ j → get_or (R bs k row).row j 0 ≡ get_or row j 0)
     × (length (R bs k row).row ≡ length row)
 
 -- demand 1 for rows: on a wait or a refusal every sample stays
 abbrev pub Keeps : RowCopy → Type 0
-Keeps R = (bs : List ℕ) (k : ℕ) (row : List ℕ) → ((n : ℕ) → (R bs k row).answer ≡ Done n → ⊥) → (R bs k row).row ≡ row
+Keeps R = (bs : List ℕ) (k : ℕ) (row : List ℕ) → ((n : ℕ) → (R bs k row).answer ≡ Ok n → ⊥) → (R bs k row).row ≡ row
 
 -- ours
 abbrev pub copier : RowCopy
@@ -96,7 +93,7 @@ fixed w n st bs c = w
 abbrev pub waved_turn : State → List ℕ → Bool → Turn
 waved_turn st bs c =
     pick (both_of (both_of (eqb st.kind 3) (leb 2 st.passed))
-    (both_of (leb (next_due st).length (length bs)) (leb (suc st.passed) (total_of st.kind st.plan)))) Pass
+    (both_of (leb (next_due st).length (length bs)) (leb (suc st.passed) (total_of st.kind st.plan)))) (Ok tt)
     (turn_of st bs c)
 
 unfoldable pub waver : Walk

@@ -1,14 +1,13 @@
 -- The listing in whatever pieces its input comes: what the program does, turn by turn, with the bytes held of the next record and the bytes still to
 -- come. Assumes nothing.
-use Rattle.std.specs.Prelude.{ℕ, zero, suc, ◌+◌, ◌≤◌, ◌≡◌, true, false, List, [], ◌∷◌, ◌++◌, length, take, drop}
+use Rattle.std.specs.Prelude.{ℕ, zero, suc, ◌≤◌, ◌≡◌, true, false, List, [], ◌∷◌, ◌++◌, length, take, drop, Ok, Err}
 use Rattle.words.specs.Tests.{pick}
 use Rattle.walk.specs.State.{start_of, next_due}
 use Rattle.walk.specs.Walk.{turn_of, next_of}
 use Rattle.walk.specs.declared.State.{State}
+use Rattle.turns.specs.Turn.{Turn}
 use Rattle.turns.specs.declared.Stop.{Stop}
 use Rattle.turns.specs.declared.Stop.TheVariants.{Wait, Pause, Complete as Complete', Refused as Refused'}
-use Rattle.turns.specs.declared.Turn.{Turn}
-use Rattle.turns.specs.declared.Turn.TheVariants.{Pass, Halt}
 use Rattle.walk.specs.declared.Walked.{Walked}
 use Rattle.listing.specs.Rows.{passed_row, too_long, told_of}
 use Rattle.rows.specs.declared.Row.{Row}
@@ -51,8 +50,8 @@ closing_row w = closing_by w.state w.stop
 
 -- the rows by one turn of the closed walk: the record's row and what follows, or the closing row
 abbrev pub rows_by : Turn → State → Row → List Row → List Row
-rows_by Pass st r rs = r ∷ rs
-rows_by (Halt x) st r rs = closing_by st x ∷ []
+rows_by (Ok u) st r rs = r ∷ rs
+rows_by (Err x) st r rs = closing_by st x ∷ []
 
 -- the rows of a whole input, record by record, however it was cut: the row of each record that passes, then the closing row; where L is over 32,768
 -- no line is listed

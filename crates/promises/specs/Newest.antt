@@ -1,8 +1,8 @@
 -- The rules that the product keeps: those of `Rules` at the newest edition, each under its own name. Theorems speak of these, so that their
 -- statements stay when a new edition comes. Assumes nothing.
 use Rattle.std.specs.Prelude.{ℕ, List}
+use Rattle.decimal.specs.Written.{Written}
 use Rattle.decimal.specs.declared.Form.{Form}
-use Rattle.decimal.specs.declared.Written.{Written}
 use Rattle.plan.specs.declared.Plan.{Plan}
 use Rattle.promises.specs.Edition.{newest}
 use Rattle.promises.specs.Rules as rules

@@ -1,16 +1,15 @@
 -- How many bytes a walk passed: what a caller leaves out of the bytes handed to the next call. Assumes nothing.
-use Rattle.std.specs.Prelude.{ℕ, zero, suc, ◌+◌, List, Bool, drop}
+use Rattle.std.specs.Prelude.{ℕ, zero, suc, ◌+◌, List, Bool, drop, Ok, Err}
 use Rattle.words.specs.Tests.{pick}
 use Rattle.walk.specs.State.{good_state, next_due}
 use Rattle.walk.specs.Walk.{turn_of, next_of}
 use Rattle.walk.specs.declared.State.{State}
-use Rattle.turns.specs.declared.Turn.{Turn}
-use Rattle.turns.specs.declared.Turn.TheVariants.{Pass, Halt}
+use Rattle.turns.specs.Turn.{Turn}
 
 -- that many bytes where the record passes, none where the walk stops
 abbrev pub on_pass : Turn → ℕ → ℕ
-on_pass Pass n = n
-on_pass (Halt x) n = 0
+on_pass (Ok u) n = n
+on_pass (Err x) n = 0
 
 -- the lengths of the records passed, added up, by the walk's own turns
 unfoldable pub used_of : ℕ → State → List ℕ → Bool → ℕ

@@ -6,12 +6,11 @@ use Rattle.std.specs.Prelude.{ℕ, zero, suc, ◌+◌, ◌*◌, ◌≤◌, ◌�
 use Prim.Native.String.{String}
 use Rattle.words.specs.Tests.{pick}
 use Rattle.words.specs.Words.{byte_at, four_at, place_of}
+use Rattle.decimal.specs.Written.{Written, number_written, blank as blank_written}
 use Rattle.decimal.specs.Text.{bytes}
 use Rattle.decimal.specs.Grammar as grammar
 use Rattle.decimal.specs.declared.Form.{Form}
 use Rattle.decimal.specs.declared.Form.TheVariants.{I4, I6, I8, I16, F8d3, F16d7, E20d13}
-use Rattle.decimal.specs.declared.Written.{Written}
-use Rattle.decimal.specs.declared.Written.TheVariants.{Number, Blank}
 use Rattle.fields.specs.Field.{field_bytes}
 use Rattle.plan.specs.declared.Plan.{Plan}
 use Rattle.promises.specs.Edition.{Edition}
@@ -151,7 +150,7 @@ module _ (e : Edition) where
 
   -- it says the number n, which lies in a range
   pub record Numbered (r : List ℕ) (byte : ℕ) (k : Form) (lo hi n : ℕ) : Type 0 where
-    pub says : Says r byte k (Number (pos n) (pos 0))
+    pub says : Says r byte k (number_written (pos n) (pos 0))
     pub least : lo ≤ n
     pub most : n ≤ hi
 
@@ -181,7 +180,7 @@ module _ (e : Edition) where
 
   -- a pair of count (I6) and length: an all-blank count is 0; with count 0 the length is not read and is 0 in the plan
   pub data Pair (r : List ℕ) (byte : ℕ) (k : Form) (least most shortest longest : ℕ) : ℕ → ℕ → Type 0 where
-    blank : Says r byte I6 Blank → least ≤ 0 → Pair r byte k least most shortest longest 0 0
+    blank : Says r byte I6 blank_written → least ≤ 0 → Pair r byte k least most shortest longest 0 0
     none : Numbered r byte I6 least most 0 → Pair r byte k least most shortest longest 0 0
     some : {count long : ℕ} → Numbered r byte I6 least most (suc count) → Numbered r (byte + 6) k shortest longest long
         → Pair r byte k least most shortest longest (suc count) long

@@ -11,6 +11,7 @@ use lib.Dec.{leb}
 use lib.ListN.{length, get_or, take, drop, replicate, drop_of_length-le}
 use lib.Seq.{drop-cons, length-take-le}
 use borrow.Author.Tests.{leb-true, leb-false}
+use Rattle.std.specs.Prelude.{Err}
 use Rattle.words.specs.declared.Refusal.{Refusal}
 use Rattle.words.proofs.Laws.{cases}
 use Rattle.plan.specs.Tables.{slot_of, other_codes, rows}
@@ -22,7 +23,6 @@ use Rattle.walk.specs.State.{fresh, next_due}
 use Rattle.walk.specs.Walk.{turn_of}
 use Rattle.turns.specs.Turn.{judge_of}
 use Rattle.turns.specs.declared.Stop.TheVariants.{Refused}
-use Rattle.turns.specs.declared.Turn.TheVariants.{Halt}
 use Rattle.turns.proofs.TurnLaws.{one_total}
 use Rattle.promises.specs.Rules.{Kind, volume, leader, image, trailer, kind_number, Is, sort_of}
 use Rattle.promises.proofs.Parts.{CodedBy}
@@ -104,7 +104,7 @@ module _ (kind : Kind) (p : Plan) (good : plan_good (kind_number kind) p ≡ tru
 
     module _ (b : List ℕ) (c : Bool) (x : Refusal) where
       abbrev Answers : List Asked → Type 1
-      Answers next = (judge_of (kind_number kind) p (suc k) (due_at kind p k) b c ≡ Halt (Refused x))
+      Answers next = (judge_of (kind_number kind) p (suc k) (due_at kind p k) b c ≡ Err (Refused x))
           ↔ Told (kind_number kind) p (suc k) (due_at kind p k) b c next x
 
       going : suc k < total_of (kind_number kind) p
@@ -155,7 +155,7 @@ first_body_lem trailer b l = first_finds trailer zero_plan 0 (take 720 b) (lengt
 
 -- before any record
 pub first_told : (kind : Kind) (b : List ℕ) (c : Bool) (x : Refusal)
-    → (turn_of (fresh (kind_number kind)) b c ≡ Halt (Refused x))
+    → (turn_of (fresh (kind_number kind)) b c ≡ Err (Refused x))
     ↔ Told (kind_number kind) zero_plan 0 (next_due (fresh (kind_number kind))) b c (first_asked kind ∷ []) x
 unfolding spot_of codes_of
 first_told kind b c x =

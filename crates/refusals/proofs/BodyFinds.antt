@@ -11,27 +11,27 @@ use lib.IntN.{pos}
 use lib.ListN.{length}
 use lib.Seq.{slice}
 use borrow.Author.Tests.{eqb-true, eq-eqb, leb-true, le-leb}
+use Rattle.std.specs.Prelude.{Ok}
+use Rattle.std.specs.List.{AllByRecursion}
 use Rattle.words.specs.Tests.{both_of}
 use Rattle.words.specs.Words.{four_at, place_of}
 use Rattle.words.proofs.Laws.{both_l, both_r}
 use Rattle.words.proofs.Table.{every}
+use Rattle.decimal.specs.Written.{number_written}
 use Rattle.decimal.specs.Text.{bytes}
 use Rattle.decimal.specs.Forms.{width_of, shape_of}
 use Rattle.decimal.specs.declared.Form.{Form}
 use Rattle.decimal.specs.declared.Form.TheVariants.{I4, I6, I8, I16, F8d3, F16d7, E20d13}
 use Rattle.decimal.specs.declared.Shape.TheVariants.{Whole}
-use Rattle.decimal.specs.declared.Written.TheVariants.{Number as Written}
 use Rattle.fields.specs.Listed.{table}
 use Rattle.fields.specs.declared.Listed.{Listed}
 use Rattle.plan.specs.Tables.{slot_of, sort_of as sort_of'}
 use Rattle.plan.specs.Plan.{first_length}
 use Rattle.plan.specs.declared.Plan.{Plan}
-use Rattle.verdicts.specs.Tests.{first_fault, text_at, each, number_of}
+use Rattle.verdicts.specs.Tests.{first_fault, text_at, each, number_of, Verdict}
 use Rattle.verdicts.specs.Numbers.{Number, number_at, row_tests, numbers_tests}
-use Rattle.verdicts.specs.declared.Verdict.{Verdict}
-use Rattle.verdicts.specs.declared.Verdict.TheVariants.{Fine}
 use Rattle.volume.specs.Volume.{class_text, volume_numbers, volume_tests, pointer_numbers, pointer_tests, volume_record}
-use Rattle.leader.specs.Leader.{pairs, count_at, pair_tests, leader_tests, listed_tests, fields_tests, leader_record}
+use Rattle.leader.specs.Leader.{pairs, count_at, slot_in, pair_tests, leader_tests, listed_tests, fields_tests, leader_record}
 use Rattle.leader.specs.declared.Pair as declared
 use Rattle.image.specs.Image.{sort_in, image_numbers, agree_tests, agreements, image_tests, line_tests, image_record}
 use Rattle.image.proofs.ImageLaws.{sort_in_lem}
@@ -44,13 +44,13 @@ use Rattle.promises.proofs.BodyIs.{Long, class_text_lem, other_volume, other_lea
 use Rattle.refusals.specs.Refusals.{Rule, number, listed, pair, SaysNumber, SortIs, first_body, pointer_body, summary_body, map_body, line_body}
 use Rattle.refusals.specs.Refusals.{nothing, agreement}
 use Rattle.refusals.specs.Refusals as rules
-use Rattle.refusals.proofs.Finds.{Finds, finds_none, finds_then, first_then, finds_each, rules_of, Every, Alike, alike_self, alike_behind, finds_alike}
+use Rattle.refusals.proofs.Finds.{Finds, finds_none, finds_then, first_then, finds_each, rules_of, Alike, alike_self, alike_behind, finds_alike}
 use Rattle.refusals.proofs.PartFinds.{exact, text_finds, listed_finds, number_finds, pair_finds}
 
 -- ---- tables
 
 -- what a computed test of each row gives
-rowed : {A : Type 0} (ok : A → Bool) (P : A → Type 0) → ((x : A) → ok x ≡ true → P x) → (xs : List A) → every ok xs ≡ true → Every P xs
+rowed : {A : Type 0} (ok : A → Bool) (P : A → Type 0) → ((x : A) → ok x ≡ true → P x) → (xs : List A) → every ok xs ≡ true → AllByRecursion P xs
 rowed ok P g [] e = tt
 rowed ok P g (x ∷ xs) e = (g x (both_l (ok x) (every ok xs) e), rowed ok P g xs (both_r (ok x) (every ok xs) e))
 
@@ -115,7 +115,7 @@ module _ (r : List ℕ) (size : ℕ) (long : length r ≡ size) where
   -- pairs, by the ranges of their slot
   abbrev pair_rules : declared.Pair → List Rule
   pair_rules x =
-      pair r x.byte x.form (slot_of x.row).least (slot_of x.row).most (slot_of x.row).shortest (slot_of x.row).longest
+      pair r x.byte x.form (slot_in x.row).least (slot_in x.row).most (slot_in x.row).shortest (slot_in x.row).longest
 
   pair? : declared.Pair → Bool
   pair? x = both_of (inside? size x.byte I6) (both_of (inside? size (x.byte + 6) x.form) (whole? x.form))
@@ -130,14 +130,14 @@ module _ (r : List ℕ) (size : ℕ) (long : length r ≡ size) where
       let b = both_r (inside? size x.byte I6) _ q in
       pair_finds r x.byte x.form (inside_is x.byte I6 a)
       (inside_is (x.byte + 6) x.form (both_l (inside? size (x.byte + 6) x.form) _ b))
-      (whole_is x.form (both_r (inside? size (x.byte + 6) x.form) _ b)) (slot_of x.row).least (slot_of x.row).most (slot_of x.row).shortest
-      (slot_of x.row).longest) xs e)
+      (whole_is x.form (both_r (inside? size (x.byte + 6) x.form) _ b)) (slot_in x.row).least (slot_in x.row).most (slot_in x.row).shortest
+      (slot_in x.row).longest) xs e)
 
 -- ---- first records
 
 trailer_finds : (r : List ℕ) → length r ≡ 720 → Finds (first_fault (trailer_tests r)) (first_body trailer r)
 unfolding trailer_tests first_fault place_of
-trailer_finds r long = text_finds r 13 "A " Fine [] (omega arith) (λ e. finds_none)
+trailer_finds r long = text_finds r 13 "A " (Ok tt) [] (omega arith) (λ e. finds_none)
 
 volume_finds : (r : List ℕ) → length r ≡ 360 → Finds (first_fault (volume_tests r)) (first_body volume r)
 unfolding volume_tests first_fault place_of numbered? inside? whole?
@@ -161,7 +161,7 @@ image_fields r = number r 181 I6 1 999999 ++ (number r 187 I6 1 999999 ++ (rules
 -- what a field says is the number that is read
 module _ (r : List ℕ) (long : length r ≡ 720) where
   reads : (byte : ℕ) (k : Form) → place_of byte + width_of k ≤ 720 → {n : ℕ} → SaysNumber r byte k n → number_at r byte k ≡ n
-  reads byte k h {n} s = ap number_of (field_reads r byte k (omega (arith, long)) (Written (pos n) (pos 0)) s)
+  reads byte k h {n} s = ap number_of (field_reads r byte k (omega (arith, long)) (number_written (pos n) (pos 0)) s)
 
   -- ---- the sort that the text names is the one that is found
 
@@ -327,7 +327,7 @@ body_by leader p (suc (suc (suc i))) = nothing
 body_by image p run = line_body p.w
 body_by trailer p run = nothing
 
-fine_finds : {v : Verdict} → v ≡ Fine → Finds v []
+fine_finds : {v : Verdict} → v ≡ Ok tt → Finds v []
 fine_finds e = subst (λ (v : Verdict). Finds v []) (sym e) finds_none
 
 -- a record of a run whose fields lie in it

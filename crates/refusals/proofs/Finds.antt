@@ -5,11 +5,13 @@ use mathlib.Core.Logic.{◌↔◌, inl, inr}
 use mathlib.Core.List.{List, [], ◌∷◌, ◌++◌}
 use mathlib.Core.Bool.{Bool, true, false}
 use native.Mathlib.Omega.{arith}
+use Rattle.std.specs.Prelude.{Ok, Err}
+use Rattle.std.specs.List.{AllByRecursion}
+use Rattle.words.specs.Answer.{refusal_at}
 use Rattle.words.specs.Tests.{pick}
 use Rattle.words.specs.Words.{place_of}
-use Rattle.verdicts.specs.Tests.{Test, first_fault, and_then, each}
-use Rattle.verdicts.specs.declared.Verdict.{Verdict}
-use Rattle.verdicts.specs.declared.Verdict.TheVariants.{Fine, Fault}
+use Rattle.words.specs.declared.Refusal.{Refusal}
+use Rattle.verdicts.specs.Tests.{Test, first_fault, and_then, each, Verdict}
 use Rattle.decimal.specs.Forms.{width_of, shape_of}
 use Rattle.decimal.specs.declared.Form.{Form}
 use Rattle.bad_byte.specs.BadByte.{BadAt, PointsAt, bad, empty}
@@ -63,34 +65,33 @@ wrong_right (x ∷ xs) ys m q h w = inr (h.0, wrong_right xs ys m q h.1 w)
 
 -- the verdict is what is first wrong with the rules
 pub record Finds (v : Verdict) (xs : List Rule) : Type 0 where
-  pub fine : v ≡ Fine → AllHold xs
-  pub fault : (m q : ℕ) → v ≡ Fault m q → FirstWrong xs m q
+  pub fine : v ≡ Ok tt → AllHold xs
+  pub fault : (y : Refusal) → v ≡ Err y → FirstWrong xs y.number y.place
 
-fine≢fault : (m q : ℕ) → Fine ≡ Fault m q → ⊥
-fine≢fault m q e = let z : ◌≡◌ {A = ℕ} 0 1 = cc in omega arith
+fine≢fault : (y : Refusal) → ◌≡◌ {A = Verdict} (Ok tt) (Err y) → ⊥
+fine≢fault y e = cc
 
 -- and the other way
-pub finds_fine : (v : Verdict) (xs : List Rule) → Finds v xs → AllHold xs → v ≡ Fine
-finds_fine Fine xs f h = refl
-finds_fine (Fault m q) xs f h = absurd (hold_wrong xs m q h (f.fault m q refl))
+pub finds_fine : (v : Verdict) (xs : List Rule) → Finds v xs → AllHold xs → v ≡ Ok tt
+finds_fine (Ok u) xs f h = refl
+finds_fine (Err y) xs f h = absurd (hold_wrong xs y.number y.place h (f.fault y refl))
 
-pub finds_fault : (v : Verdict) (xs : List Rule) → Finds v xs → (m q : ℕ) → FirstWrong xs m q → v ≡ Fault m q
-finds_fault Fine xs f m q w = absurd (hold_wrong xs m q (f.fine refl) w)
-finds_fault (Fault m' q') xs f m q w =
-    let e = wrong_once xs m' q' m q (f.fault m' q' refl) w in
-    ap (λ (n : ℕ). Fault n q') e.0 ∙ ap (λ (n : ℕ). Fault m n) e.1
+pub finds_fault : (v : Verdict) (xs : List Rule) → Finds v xs → (m q : ℕ) → FirstWrong xs m q
+    → (y : Refusal) × (v ≡ Err y) × (y.number ≡ m) × (y.place ≡ q)
+finds_fault (Ok u) xs f m q w = absurd (hold_wrong xs m q (f.fine refl) w)
+finds_fault (Err y) xs f m q w = let e = wrong_once xs y.number y.place m q (f.fault y refl) w in (y, refl, e.0, e.1)
 
 -- ---- lists one after the other
 
-pub finds_none : Finds Fine []
-finds_none = record { fine = λ e. tt; fault = λ m q e. absurd (fine≢fault m q e) }
+pub finds_none : Finds (Ok tt) []
+finds_none = record { fine = λ e. tt; fault = λ y e. absurd (fine≢fault y e) }
 
-pub finds_then : (v u : Verdict) (xs ys : List Rule) → Finds v xs → (v ≡ Fine → Finds u ys) → Finds (and_then v u) (xs ++ ys)
-finds_then Fine u xs ys f g =
+pub finds_then : (v u : Verdict) (xs ys : List Rule) → Finds v xs → (v ≡ Ok tt → Finds u ys) → Finds (and_then v u) (xs ++ ys)
+finds_then (Ok v) u xs ys f g =
     let h = f.fine refl in
-    record { fine = λ e. hold_join xs ys h ((g refl).fine e); fault = λ m q e. wrong_right xs ys m q h ((g refl).fault m q e) }
-finds_then (Fault n at) u xs ys f g =
-    record { fine = λ e. absurd (fine≢fault n at (sym e)); fault = λ m q e. wrong_left xs ys m q (f.fault m q e) }
+    record { fine = λ e. hold_join xs ys h ((g refl).fine e); fault = λ y e. wrong_right xs ys y.number y.place h ((g refl).fault y e) }
+finds_then (Err x) u xs ys f g =
+    record { fine = λ e. absurd (fine≢fault x (sym e)); fault = λ y e. wrong_left xs ys y.number y.place (f.fault y e) }
 
 -- the first fault of tests one after the other
 pub first_then : (ts us : List Test) → first_fault (ts ++ us) ≡ and_then (first_fault ts) (first_fault us)
@@ -99,20 +100,24 @@ first_then [] us = refl
 first_then (t ∷ ts) us = go t.holds (first_then ts us)
   where
     go : (b : Bool) → first_fault (ts ++ us) ≡ and_then (first_fault ts) (first_fault us)
-        → pick b (first_fault (ts ++ us)) (Fault t.number t.place) ≡ and_then (pick b (first_fault ts) (Fault t.number t.place)) (first_fault us)
+        → pick b (first_fault (ts ++ us)) (Err (refusal_at t.number t.place))
+        ≡ and_then (pick b (first_fault ts) (Err (refusal_at t.number t.place))) (first_fault us)
     go true e = e
     go false e = refl
 
 -- one test beside one rule, and what follows where it holds
 pub finds_test : (b : Bool) (n at : ℕ) (v : Verdict) (x : Rule) (xs : List Rule) → (b ≡ true → x.Holds)
-    → (b ≡ false → (x.Holds → ⊥) × (n ≡ x.number) × Points x.mark at) → (b ≡ true → Finds v xs) → Finds (pick b v (Fault n at)) (x ∷ xs)
+    → (b ≡ false → (x.Holds → ⊥) × (n ≡ x.number) × Points x.mark at) → (b ≡ true → Finds v xs)
+    → Finds (pick b v (Err (refusal_at n at))) (x ∷ xs)
 finds_test true n at v x xs h w f =
-    record { fine = λ e. (h refl, (f refl).fine e); fault = λ m q e. inr (h refl, (f refl).fault m q e) }
+    record { fine = λ e. (h refl, (f refl).fine e); fault = λ y e. inr (h refl, (f refl).fault y e) }
 finds_test false n at v x xs h w f =
     let b = w refl in
     record {
-      fine = λ e. absurd (fine≢fault n at (sym e));
-      fault = λ m q e. inl (b.0, (let z : m ≡ n = cc in z) ∙ b.1, subst (Points x.mark) (sym (let z : q ≡ at = cc in z)) b.2);
+      fine = λ e. absurd (fine≢fault (refusal_at n at) (sym e));
+      fault = λ y e.
+          let s : refusal_at n at ≡ y = cc in
+          inl (b.0, sym (ap (λ (r : Refusal). r.number) s) ∙ b.1, subst (Points x.mark) (ap (λ (r : Refusal). r.place) s) b.2);
     }
 
 -- the tests of each of several things, one thing after the other, beside the rules of each
@@ -120,12 +125,7 @@ abbrev pub rules_of : {A : Type 0} → (A → List Rule) → List A → List Rul
 rules_of g [] = []
 rules_of g (x ∷ xs) = g x ++ rules_of g xs
 
--- what holds of each thing of a list
-abbrev pub Every : {A : Type 0} → (A → Type 0) → List A → Type 0
-Every P [] = Unit {0}
-Every P (x ∷ xs) = P x × Every P xs
-
-pub finds_each : {A : Type 0} (g : A → List Test) (h : A → List Rule) (xs : List A) → Every (λ (x : A). Finds (first_fault (g x)) (h x)) xs
+pub finds_each : {A : Type 0} (g : A → List Test) (h : A → List Rule) (xs : List A) → AllByRecursion (λ (x : A). Finds (first_fault (g x)) (h x)) xs
     → Finds (first_fault (each g xs)) (rules_of h xs)
 unfolding first_fault
 finds_each g h [] f = finds_none
@@ -164,4 +164,4 @@ alike_wrong (x ∷ xs) (y ∷ ys) m q a (inl w) = inl (λ h. w.0 (a.0.0.1 h), w.
 alike_wrong (x ∷ xs) (y ∷ ys) m q a (inr w) = inr (a.0.0.0 w.0, alike_wrong xs ys m q a.1 w.1)
 
 pub finds_alike : {v : Verdict} (xs ys : List Rule) → Alike xs ys → Finds v xs → Finds v ys
-finds_alike xs ys a f = record { fine = λ e. alike_hold xs ys a (f.fine e); fault = λ m q e. alike_wrong xs ys m q a (f.fault m q e) }
+finds_alike xs ys a f = record { fine = λ e. alike_hold xs ys a (f.fine e); fault = λ y e. alike_wrong xs ys y.number y.place a (f.fault y e) }

@@ -9,6 +9,7 @@ use native.Mathlib.Omega.{arith}
 use lib.Dec.{eqb}
 use lib.ListN.{length, get_or}
 use borrow.Author.Tests.{eqb-true, eqb-false, eq-eqb, ne_eqb}
+use Rattle.std.specs.Prelude.{Ok, Err}
 use Rattle.words.specs.Tests.{pick}
 use Rattle.words.specs.Words.{place_of}
 use Rattle.words.specs.Answer.{refusal_at, refused_as}
@@ -17,10 +18,8 @@ use Rattle.plan.specs.Plan as plan
 use Rattle.turns.specs.declared.Stop.{Stop}
 use Rattle.turns.specs.declared.Stop.TheVariants as stop
 use Rattle.walk.specs.State.{fresh}
-use Rattle.sets.specs.Set.{differs, count_byte, count_of, compare_from, compare_of, behind_walk, directory, set_of}
+use Rattle.sets.specs.Set.{differs, count_byte, count_of, compare_from, compare_of, behind_walk, directory, set_of, Agreement}
 use Rattle.sets.specs.Said.{agreement_as}
-use Rattle.sets.specs.declared.Agreement.{Agreement}
-use Rattle.sets.specs.declared.Agreement.TheVariants.{Agrees, Refused}
 use Rattle.promises.specs.Rules.{volume}
 use Rattle.promises.specs.Newest.{Accepted}
 use Rattle.promises.proofs.Counted.{closed_never_waits}
@@ -30,11 +29,11 @@ use Rattle.refusals.specs.Questions.{Counted, SetRefuses, directory as own, many
 use Rattle.refusals.proofs.Said as said
 use Rattle.refusals.proofs.Walked.{refused_to, refused_from}
 
-refused_same : {x y : Refusal} → ◌≡◌ {A = Agreement} (Refused x) (Refused y) → x ≡ y
+refused_same : {x y : Refusal} → ◌≡◌ {A = Agreement} (Err x) (Err y) → x ≡ y
 refused_same e = cc
 
-agrees≢refused : (x : Refusal) → ◌≡◌ {A = Agreement} Agrees (Refused x) → ⊥
-agrees≢refused x e = let z : ◌≡◌ {A = ℕ} 0 1 = cc in omega arith
+agrees≢refused : (x : Refusal) → ◌≡◌ {A = Agreement} (Ok tt) (Err x) → ⊥
+agrees≢refused x e = cc
 
 -- ---- the first count that differs
 
@@ -46,13 +45,13 @@ record Differs (p : ℕ) (bs cs : List ℕ) (x : Refusal) : Type 0 where
   other : get_or cs at 0 ≡ count_of bs (p + at) → ⊥
   is : x ≡ refusal_at 12 (place_of (count_byte (p + at)))
 
-compare_to : (p : ℕ) (bs cs : List ℕ) (x : Refusal) → compare_from p bs cs ≡ Refused x → Differs p bs cs x
+compare_to : (p : ℕ) (bs cs : List ℕ) (x : Refusal) → compare_from p bs cs ≡ Err x → Differs p bs cs x
 unfolding compare_from
 compare_to p bs [] x e = absurd (agrees≢refused x e)
 compare_to p bs (c ∷ cs) x e = go (compare_to (p + 1) bs cs x) (eqb c (count_of bs p)) refl e
   where
-    go : (compare_from (p + 1) bs cs ≡ Refused x → Differs (p + 1) bs cs x) → (b : Bool) → eqb c (count_of bs p) ≡ b
-        → pick b (compare_from (p + 1) bs cs) (differs (place_of (count_byte p))) ≡ Refused x → Differs p bs (c ∷ cs) x
+    go : (compare_from (p + 1) bs cs ≡ Err x → Differs (p + 1) bs cs x) → (b : Bool) → eqb c (count_of bs p) ≡ b
+        → pick b (compare_from (p + 1) bs cs) (differs (place_of (count_byte p))) ≡ Err x → Differs p bs (c ∷ cs) x
     go more true q f =
         let m = more f in
         let i : p + 1 + m.at ≡ p + suc m.at = omega arith in
@@ -116,7 +115,7 @@ list_place = refl
 -- ---- the check
 
 module _ (bs cs : List ℕ) (x : Refusal) where
-  set_to : set_of bs cs ≡ Refused x → SetRefuses bs cs x
+  set_to : set_of bs cs ≡ Err x → SetRefuses bs cs x
   unfolding set_of compare_of
   set_to e = go (directory bs).stop refl e
     where
@@ -129,20 +128,20 @@ module _ (bs cs : List ℕ) (x : Refusal) where
           (d.is ∙ ap (refusal_at 12) (count_place d.at))
 
       compared : (a : Accepted volume bs) (b : Bool) → eqb (length cs) (directory bs).state.plan.pointers ≡ b
-          → pick b (compare_from 1 bs cs) (differs (place_of 161)) ≡ Refused x → SetRefuses bs cs x
+          → pick b (compare_from 1 bs cs) (differs (place_of 161)) ≡ Err x → SetRefuses bs cs x
       compared a true q f = counted a (eqb-true _ _ q ∙ directory_pointers bs a) (compare_to 1 bs cs x f)
       compared a false q f =
           many a (λ m. eqb-false (length cs) (directory bs).state.plan.pointers q (m ∙ sym (directory_pointers bs a)))
           (sym (refused_same f) ∙ ap (refusal_at 12) list_place)
 
-      go : (s : Stop) → (directory bs).stop ≡ s → behind_walk s (compare_of (directory bs).state.plan.pointers bs cs) ≡ Refused x → SetRefuses bs cs x
+      go : (s : Stop) → (directory bs).stop ≡ s → behind_walk s (compare_of (directory bs).state.plan.pointers bs cs) ≡ Err x → SetRefuses bs cs x
       go (stop.Wait n) q f = absurd (closed_never_waits 9 (fresh plan.volume) bs n q)
       go stop.Pause q f = absurd (directory_pauses bs q)
       go stop.Complete q f =
           compared (complete_accepted volume bs 9 q) (eqb (length cs) (directory bs).state.plan.pointers) refl f
       go (stop.Refused r) q f = own (refused_to volume bs true x 9 (q ∙ ap stop.Refused (refused_same f)))
 
-  set_from : SetRefuses bs cs x → set_of bs cs ≡ Refused x
+  set_from : SetRefuses bs cs x → set_of bs cs ≡ Err x
   unfolding set_of compare_of
   set_from (own y) =
       ap (λ (s : Stop). behind_walk s (compare_of (directory bs).state.plan.pointers bs cs)) (refused_from volume bs true x 9 (λ e. directory_pauses bs e) y)
@@ -150,16 +149,16 @@ module _ (bs cs : List ℕ) (x : Refusal) where
       ap (λ (s : Stop). behind_walk s (compare_of (directory bs).state.plan.pointers bs cs)) (directory_complete bs a)
       ∙ ap (λ (b : Bool). pick b (compare_from 1 bs cs) (differs (place_of 161)))
       (ne_eqb (length cs) (directory bs).state.plan.pointers (λ m. h (m ∙ directory_pointers bs a)))
-      ∙ ap (λ (n : ℕ). Refused (refusal_at 12 n)) list_place
-      ∙ ap Refused (sym e)
+      ∙ ap (λ (n : ℕ). Err (refusal_at 12 n)) list_place
+      ∙ ap Err (sym e)
   set_from (count a m i h s o e) =
       let p = directory_pointers bs a in
       ap (λ (s : Stop). behind_walk s (compare_of (directory bs).state.plan.pointers bs cs)) (directory_complete bs a)
       ∙ ap (λ (b : Bool). pick b (compare_from 1 bs cs) (differs (place_of 161))) (eq-eqb (length cs) (directory bs).state.plan.pointers (m ∙ sym p))
       ∙ compare_from_lem i 1 bs cs h (λ j l. (count_same bs a j (omega arith) (get_or cs j 0)).1 (s j l))
       (λ c. o ((count_same bs a i (omega arith) (get_or cs i 0)).0 c))
-      ∙ ap (λ (n : ℕ). Refused (refusal_at 12 n)) (count_place i)
-      ∙ ap Refused (sym e)
+      ∙ ap (λ (n : ℕ). Err (refusal_at 12 n)) (count_place i)
+      ∙ ap Err (sym e)
 
 pub set_exactly : (bs cs : List ℕ) (x : Refusal) → (agreement_as (set_of bs cs) ≡ refused_as x) ↔ SetRefuses bs cs x
 set_exactly bs cs x = (λ e. set_to bs cs x (said.set_refused _ x e), λ y. ap agreement_as (set_from bs cs x y))

@@ -1,15 +1,15 @@
 -- A line view and a row copy refuse exactly where `Questions` says so: the first record as in the walk, then the line under the plan that it names,
 -- whose tests find the first of its rules.
 use Prim.Native.Nat.{ℕ, suc, ◌+◌, ◌-◌, ◌*◌, ◌≤◌}
-use mathlib.Core.Path.{◌≡◌, refl, sym, ap, ◌∙◌, subst}
+use mathlib.Core.Path.{◌≡◌, refl, sym, ap, ap₂, ◌∙◌, subst}
 use mathlib.Core.Logic.{◌↔◌}
 use mathlib.Core.List.{List, []}
 use mathlib.Core.Bool.{Bool, true, false}
-use native.Mathlib.Omega.{arith}
 use native.Mathlib.Numerals.{add-one}
 use lib.Dec.{ltb}
 use lib.ListN.{length, take, drop}
 use borrow.Author.Tests.{ltb-true, ltb-false}
+use Rattle.std.specs.Prelude.{Ok, Err}
 use Rattle.words.specs.Tests.{within_of}
 use Rattle.words.specs.Answer.{bare_refusal, refused_as}
 use Rattle.words.specs.declared.Refusal.{Refusal}
@@ -20,18 +20,16 @@ use Rattle.plan.specs.declared.Plan.{Plan}
 use Rattle.plan.specs.declared.Due.{Due}
 use Rattle.headers.specs.Header.{header_of}
 use Rattle.bodies.specs.Bodies.{body_of}
-use Rattle.verdicts.specs.declared.Verdict.{Verdict}
-use Rattle.verdicts.specs.declared.Verdict.TheVariants.{Fine, Fault}
 use Rattle.turns.specs.declared.Stop.{Stop}
 use Rattle.turns.specs.declared.Stop.TheVariants as stop
 use Rattle.walk.specs.State.{fresh}
 use Rattle.walk.specs.Walk.{next_of}
 use Rattle.walk.specs.declared.Walked.{Walked}
-use Rattle.lines.specs.View.{on_verdict, found_in, shown_of, line_at, line_of, behind_first, first_of, view_of}
+use Rattle.lines.specs.View.{on_verdict, found_in, shown_of, line_at, line_of, behind_first, first_of, view_of, View, shown_view}
 use Rattle.lines.specs.Said.{view_as}
-use Rattle.lines.specs.declared.View.{View}
-use Rattle.lines.specs.declared.View.TheVariants.{Shown, Wait, Refused}
 use Rattle.lines.proofs.ViewLaws.{at_short, at_whole, line_in, line_out}
+use Rattle.verdicts.specs.Tests.{Verdict}
+use Rattle.lines.specs.declared.Unshown.TheVariants as unshown
 use Rattle.promises.specs.Rules.{image, Coded, Is}
 use Rattle.promises.specs.Newest.{ImageDescriptor}
 use Rattle.promises.specs.Shown.{line_start, line_record}
@@ -51,14 +49,14 @@ use Rattle.refusals.proofs.Said as said
 use Rattle.refusals.proofs.Judged.{same_refusal}
 use Rattle.refusals.proofs.Walked.{first_refused}
 
-refused_same : {x y : Refusal} → ◌≡◌ {A = View} (Refused x) (Refused y) → x ≡ y
+refused_same : {x y : Refusal} → ◌≡◌ {A = View} (Err (unshown.Refused x)) (Err (unshown.Refused y)) → x ≡ y
 refused_same e = cc
 
-wait≢refused : (n : ℕ) (x : Refusal) → ◌≡◌ {A = View} (Wait n) (Refused x) → ⊥
-wait≢refused n x e = let z : ◌≡◌ {A = ℕ} 0 1 = cc in omega arith
+wait≢refused : (n : ℕ) (x : Refusal) → ◌≡◌ {A = View} (Err (unshown.Wait n)) (Err (unshown.Refused x)) → ⊥
+wait≢refused n x e = cc
 
-shown≢refused : (a b c : ℕ) (x : Refusal) → ◌≡◌ {A = View} (Shown a b c) (Refused x) → ⊥
-shown≢refused a b c x e = let z : ◌≡◌ {A = ℕ} 0 1 = cc in omega arith
+shown≢refused : (a b c : ℕ) (x : Refusal) → ◌≡◌ {A = View} (shown_view a b c) (Err (unshown.Refused x)) → ⊥
+shown≢refused a b c x e = cc
 
 -- ---- under a plan
 
@@ -90,26 +88,27 @@ module _ (p : Plan) (k : ℕ) (bs : List ℕ) where
       (add-one k) (header_finds (k + 1) (line_codes p.sort) p.l (line_record p k bs))))
       (λ e. body_finds image p 1 k (line_record p k bs) tt)
 
-  line_to : (x : Refusal) → line_of p k bs ≡ Refused x → LineRefused p.n p.l p.w p.sort k bs x
+  line_to : (x : Refusal) → line_of p k bs ≡ Err (unshown.Refused x) → LineRefused p.n p.l p.w p.sort k bs x
   unfolding shown_of
   line_to x e = go (within_of 1 k p.n) refl
     where
       found : 1 ≤ k → k ≤ p.n → line_start p k + p.l ≤ length bs → (v : Verdict) → found_in p k (line_as p k) (line_record p k bs) ≡ v
-          → on_verdict v (k + 1) (line_start p k) (shown_of p (line_start p k) (line_record p k bs)) ≡ Refused x → LineRefused p.n p.l p.w p.sort k bs x
-      found a b h Fine q f = absurd (shown≢refused _ _ _ x f)
-      found a b h (Fault m i) q f =
+          → on_verdict v (k + 1) (line_start p k) (shown_of p (line_start p k) (line_record p k bs)) ≡ Err (unshown.Refused x)
+          → LineRefused p.n p.l p.w p.sort k bs x
+      found a b h (Ok u) q f = absurd (shown≢refused _ _ _ x f)
+      found a b h (Err z) q f =
           let s = refused_same f in
           some (record {
             least = a;
             most = b;
             whole = h;
-            at = i;
-            wrong = subst (λ (y : Refusal). FirstWrong (line_rules p k (line_record p k bs)) y.number i) s (line_finds.fault m i q);
+            at = z.place;
+            wrong = subst (λ (y : Refusal). FirstWrong (line_rules p k (line_record p k bs)) y.number z.place) s (line_finds.fault z q);
             ordinal = ap (λ (y : Refusal). y.«record») (sym s) ∙ add-one k;
             place = ap (λ (y : Refusal). y.place) (sym s);
           })
 
-      held : 1 ≤ k → k ≤ p.n → line_at p k (line_as p k) bs ≡ Refused x → LineRefused p.n p.l p.w p.sort k bs x
+      held : 1 ≤ k → k ≤ p.n → line_at p k (line_as p k) bs ≡ Err (unshown.Refused x) → LineRefused p.n p.l p.w p.sort k bs x
       held a b f = by (ltb (length bs) (line_start p k + p.l)) refl
         where
           by : (t : Bool) → ltb (length bs) (line_start p k + p.l) ≡ t → LineRefused p.n p.l p.w p.sort k bs x
@@ -124,25 +123,26 @@ module _ (p : Plan) (k : ℕ) (bs : List ℕ) where
           held h.0 h.1 (ap (λ (s : Due). line_at p k s bs) (sym (as_due p k h.0 h.1)) ∙ sym (line_in p k bs q) ∙ e)
       go false q = none (within_false 1 k p.n q) (sym (refused_same (sym (line_out p k bs q) ∙ e)))
 
-  line_from : (x : Refusal) → LineRefused p.n p.l p.w p.sort k bs x → line_of p k bs ≡ Refused x
-  line_from x (none h e) = line_out p k bs (out (within_of 1 k p.n) refl) ∙ ap Refused (sym e)
+  line_from : (x : Refusal) → LineRefused p.n p.l p.w p.sort k bs x → line_of p k bs ≡ Err (unshown.Refused x)
+  line_from x (none h e) = line_out p k bs (out (within_of 1 k p.n) refl) ∙ ap (λ (r : Refusal). Err (unshown.Refused r)) (sym e)
     where
       out : (t : Bool) → within_of 1 k p.n ≡ t → within_of 1 k p.n ≡ false
       out true q = absurd (h (within_true 1 k p.n q))
       out false q = q
   line_from x (some y) =
       let due = as_due p k y.least y.most in
-      let v = finds_fault (found_in p k (line_as p k) (line_record p k bs)) (line_rules p k (line_record p k bs)) line_finds x.number y.at y.wrong in
+      let (z, v, n, i) = finds_fault (found_in p k (line_as p k) (line_record p k bs)) (line_rules p k (line_record p k bs)) line_finds x.number y.at y.wrong in
       line_in p k bs (true_within 1 k p.n y.least y.most)
       ∙ ap (λ (s : Due). line_at p k s bs) due
       ∙ at_whole p k (line_as p k) bs y.whole
       ∙ ap (λ (z : Verdict). on_verdict z (k + 1) (line_start p k) (shown_of p (line_start p k) (line_record p k bs))) v
-      ∙ ap Refused (same_refusal x (y.ordinal ∙ sym (add-one k)) y.place)
+      ∙ ap₂ (λ (m q : ℕ). Err (unshown.Refused (record { number = m; «record» = k + 1; place = line_start p k + q }))) n i
+      ∙ ap (λ (r : Refusal). Err (unshown.Refused r)) (same_refusal x (y.ordinal ∙ sym (add-one k)) y.place)
 
 -- ---- the view
 
 module _ (bs : List ℕ) (k : ℕ) (x : Refusal) where
-  pub view_to : view_of bs k ≡ Refused x → ViewRefuses bs k x
+  pub view_to : view_of bs k ≡ Err (unshown.Refused x) → ViewRefuses bs k x
   unfolding view_of
   view_to e = go (first_of bs).stop refl e
     where
@@ -152,14 +152,14 @@ module _ (bs : List ℕ) (k : ℕ) (x : Refusal) where
       at_line d (none h q) = outside (first_of bs).state.plan d h q
       at_line d (some y) = line (first_of bs).state.plan d y.least y.most y.whole y.at y.wrong y.ordinal y.place
 
-      go : (s : Stop) → (first_of bs).stop ≡ s → behind_first s (line_of (first_of bs).state.plan k bs) ≡ Refused x → ViewRefuses bs k x
+      go : (s : Stop) → (first_of bs).stop ≡ s → behind_first s (line_of (first_of bs).state.plan k bs) ≡ Err (unshown.Refused x) → ViewRefuses bs k x
       go (stop.Wait n) q f = absurd (wait≢refused n x f)
       go stop.Pause q f = at_line (first_there bs q) (line_to (first_of bs).state.plan k bs x f)
       go stop.Complete q f = absurd (open_never_complete 1 (fresh plan.image) bs q)
       go (stop.Refused r) q f = let w = (first_refused image bs false x).0 (q ∙ ap stop.Refused (refused_same f)) in first w.0 w.1
 
   -- a line under the plan that the first record names, whatever plan the rules give it
-  under : (p : Plan) → ImageDescriptor (take 720 bs) p → LineRefused p.n p.l p.w p.sort k bs x → view_of bs k ≡ Refused x
+  under : (p : Plan) → ImageDescriptor (take 720 bs) p → LineRefused p.n p.l p.w p.sort k bs x → view_of bs k ≡ Err (unshown.Refused x)
   unfolding view_of first_length
   under p d y =
       let q = (next_of (fresh plan.image) bs).plan in
@@ -171,7 +171,7 @@ module _ (bs : List ℕ) (k : ℕ) (x : Refusal) where
       (subst (λ (w : ℕ). LineRefused p.n p.l w q.sort k bs x) (sym same.2)
       (subst (λ (i : ℕ). LineRefused p.n p.l p.w i k bs x) (sym same.5) y))))
 
-  pub view_from : ViewRefuses bs k x → view_of bs k ≡ Refused x
+  pub view_from : ViewRefuses bs k x → view_of bs k ≡ Err (unshown.Refused x)
   unfolding view_of
   view_from (first w o) = ap (λ (s : Stop). behind_first s (line_of (first_of bs).state.plan k bs)) ((first_refused image bs false x).1 (w, o))
   view_from (outside p d h e) = under p d (none h e)

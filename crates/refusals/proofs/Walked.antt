@@ -8,6 +8,7 @@ use mathlib.Core.Bool.{Bool, true}
 use native.Mathlib.Omega.{arith}
 use lib.ListN.{length, take, drop, take-append-drop, length-append}
 use lib.Seq.{take_at, drop_at, length-take-le}
+use Rattle.std.specs.Prelude.{Ok, Err}
 use Rattle.words.specs.Answer.{refused_as}
 use Rattle.words.specs.declared.Refusal.{Refusal}
 use Rattle.plan.specs.Tables.{rows}
@@ -19,9 +20,8 @@ use Rattle.walk.specs.Walk.{turn_of, walk_of}
 use Rattle.walk.specs.declared.State.{State}
 use Rattle.walk.specs.declared.Walked.{Walked}
 use Rattle.walk.proofs.LoopLaws.{walk_pause, walk_halt, walk_pass}
+use Rattle.turns.specs.Turn.{Turn}
 use Rattle.turns.specs.declared.Stop.TheVariants.{Pause, Refused}
-use Rattle.turns.specs.declared.Turn.{Turn}
-use Rattle.turns.specs.declared.Turn.TheVariants.{Pass, Halt}
 use Rattle.turns.proofs.TurnLaws.{one_total, pass_going}
 use Rattle.promises.specs.Rules.{Kind, kind_number, Due, Follow, concat}
 use Rattle.promises.specs.Edition.{newest}
@@ -66,9 +66,9 @@ module _ (kind : Kind) (p : Plan) (good : plan_good (kind_number kind) p ≡ tru
       where
         go : ((b : List ℕ) → suc (suc j) ≤ total_of (kind_number kind) p → (x : Refusal) → (walk_of n (behind kind p (suc j)) b c).stop ≡ Refused x
             → Later (suc j) b x) → (t : Turn) → turn_of (behind kind p j) b c ≡ t → Later j b x
-        go more (Halt y) q =
+        go more (Err y) q =
             let z : y ≡ Refused x = sym (stop_of _ _ (walk_halt (behind kind p j) b c n y (good_behind kind p good cl ll j h) q)) ∙ e in
-            let t = (later_told kind p good cl ll j b c x).0 (q ∙ ap Halt z) in
+            let t = (later_told kind p good cl ll j b c x).0 (q ∙ ap Err z) in
             let i : j ≡ j + 0 = omega arith in
             let o : suc j + 1 ≡ suc (suc (j + 0)) = omega arith in
             let a : (due_at kind p j).start + t.0 ≡ (due_at kind p j).start + 0 + t.0 = omega arith in
@@ -82,7 +82,7 @@ module _ (kind : Kind) (p : Plan) (good : plan_good (kind_number kind) p ≡ tru
               ordinal = t.2 ∙ o;
               place = t.3 ∙ a;
             }
-        go more Pass q =
+        go more (Ok u) q =
             let g = pass_going (kind_number kind) p (suc j) (due_at kind p j) b c q in
             let a = (pass_is (kind_number kind) p (suc j) (due_at kind p j) b c g (spot_least kind p good cl ll j g)).0 q in
             let l = (due_at kind p j).length in
@@ -178,9 +178,9 @@ module _ (kind : Kind) (bs : List ℕ) (c : Bool) (x : Refusal) where
   refused_to (suc n) e = go (turn_of (fresh (kind_number kind)) bs c) refl
     where
       go : (t : Turn) → turn_of (fresh (kind_number kind)) bs c ≡ t → Refuses kind c bs x
-      go (Halt y) q =
+      go (Err y) q =
           let z : y ≡ Refused x = sym (stop_of _ _ (walk_halt (fresh (kind_number kind)) bs c n y (good_fresh kind) q)) ∙ e in
-          let t = (first_told kind bs c x).0 (q ∙ ap Halt z) in
+          let t = (first_told kind bs c x).0 (q ∙ ap Err z) in
           record {
             passed = 0;
             start = 0;
@@ -192,7 +192,7 @@ module _ (kind : Kind) (bs : List ℕ) (c : Bool) (x : Refusal) where
             ordinal = t.2;
             place = t.3;
           }
-      go Pass q =
+      go (Ok u) q =
           let l = first_length (kind_number kind) in
           let r = take l bs in
           let p = planned kind bs in
@@ -280,10 +280,10 @@ first_refused kind bs c x = (λ e. go e (turn_of (fresh (kind_number kind)) bs c
   where
     go : (walk_of 1 (fresh (kind_number kind)) bs c).stop ≡ Refused x → (t : Turn) → turn_of (fresh (kind_number kind)) bs c ≡ t
         → Wrong c 0 bs x.number x.place (first_asked kind ∷ []) × (x.«record» ≡ 1)
-    go e Pass q = absurd (pause≢refused (sym (stop_of _ _ (one_turn (fresh (kind_number kind)) bs c (good_fresh kind) q)) ∙ e))
-    go e (Halt y) q =
+    go e (Ok u) q = absurd (pause≢refused (sym (stop_of _ _ (one_turn (fresh (kind_number kind)) bs c (good_fresh kind) q)) ∙ e))
+    go e (Err y) q =
         let z : y ≡ Refused x = sym (stop_of _ _ (walk_halt (fresh (kind_number kind)) bs c 0 y (good_fresh kind) q)) ∙ e in
-        let t = (first_told kind bs c x).0 (q ∙ ap Halt z) in
+        let t = (first_told kind bs c x).0 (q ∙ ap Err z) in
         let a : t.0 ≡ x.place = (let b = t.3 in omega arith) in
         (subst (λ (i : ℕ). Wrong c 0 bs x.number i (first_asked kind ∷ [])) a t.1, t.2)
 

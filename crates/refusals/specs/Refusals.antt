@@ -5,9 +5,9 @@ use Rattle.std.specs.Prelude.{ℕ, zero, suc, ◌+◌, ◌*◌, ◌≤◌, ◌<�
 use Prim.Native.String.{String}
 use Rattle.words.specs.Words.{four_at, place_of}
 use Rattle.words.specs.declared.Refusal.{Refusal}
+use Rattle.decimal.specs.Written.{number_written, blank as blank_written}
 use Rattle.decimal.specs.declared.Form.{Form}
 use Rattle.decimal.specs.declared.Form.TheVariants.{I4, I6, I8, I16, F8d3, F16d7, E20d13}
-use Rattle.decimal.specs.declared.Written.TheVariants.{Number, Blank}
 use Rattle.bad_byte.specs.BadByte.{PointsAt}
 use Rattle.fields.specs.Field.{field_bytes}
 use Rattle.plan.specs.declared.Plan.{Plan}
@@ -66,7 +66,7 @@ text r byte t = rule 8 byte (Text r byte t)
 
 -- the field says a number, whichever
 abbrev pub SomeNumber : List ℕ → ℕ → Form → Type 0
-SomeNumber r byte k = (v : ℤ) × (e : ℤ) × Says r byte k (Number v e)
+SomeNumber r byte k = (v : ℤ) × (e : ℤ) × Says r byte k (number_written v e)
 
 -- a number field: 6 where it is badly written or blank, then 7 outside its range, at its first byte
 abbrev pub number : List ℕ → ℕ → Form → ℕ → ℕ → List Rule
@@ -85,11 +85,11 @@ agreement H = rule 8 1 H
 
 -- the field says that number
 abbrev pub SaysNumber : List ℕ → ℕ → Form → ℕ → Type 0
-SaysNumber r byte k n = Says r byte k (Number (pos n) (pos 0))
+SaysNumber r byte k n = Says r byte k (number_written (pos n) (pos 0))
 
 -- a leader's count (I6), whose blank is 0
 abbrev pub Counts : List ℕ → ℕ → ℕ → Type 0
-Counts r byte n = (Says r byte I6 Blank × (n ≡ 0)) ⊎ SaysNumber r byte I6 n
+Counts r byte n = (Says r byte I6 blank_written × (n ≡ 0)) ⊎ SaysNumber r byte I6 n
 
 -- a leader's pair: the count's form and range, then its length's, six bytes on, which is not read where the count is 0
 abbrev pub pair : List ℕ → ℕ → Form → ℕ → ℕ → ℕ → ℕ → List Rule

@@ -1,28 +1,22 @@
 -- A sample of a line that stands there is the one that the rules name: a count (`sample_named`), or two patterns, each the four bytes at its place, high byte
 -- first (`complex_named`); its power is that of these patterns (`power_is`), and the complex row has them one after the other (`row_named`).
-use Prim.Native.Nat.{ℕ, suc, ◌+◌, ◌-◌, ◌*◌, ◌≤◌, ◌<◌}
-use mathlib.Core.Path.{◌≡◌, refl, sym, ap, ap₂, ◌∙◌, subst}
+use Prim.Native.Nat.{ℕ, ◌+◌, ◌-◌, ◌*◌, ◌≤◌, ◌<◌}
+use mathlib.Core.Path.{◌≡◌, ap, ap₂, ◌∙◌}
 use mathlib.Core.List.{List, ◌++◌}
-use mathlib.Core.Bool.{true, false}
+use mathlib.Core.Bool.{true}
 use native.Mathlib.Omega.{arith}
 use lib.Ieee.{binary32, to_bits}
 use lib.ListN.{length, get_or, drop, length-append, length-drop, get_or-append}
 use lib.Seq.{get_or-drop, get_or-append-add}
-use borrow.Author.Tests.{lt-ltb, le-ltb, eq-eqb}
-use Rattle.words.specs.Words.{two_at, four_at}
+use borrow.Author.Tests.{lt-ltb, le-ltb}
+use Rattle.words.specs.Words.{four_at}
 use Rattle.floats.specs.Floats as floats
-use Rattle.floats.specs.declared.Power.{Power}
 use Rattle.plan.specs.declared.Plan.{Plan}
-use Rattle.lines.specs.View.{view_of, sort_seen}
-use Rattle.lines.specs.declared.View.{View}
-use Rattle.copies.specs.declared.Copied.TheVariants.{Done}
+use Rattle.std.specs.Prelude.{Ok}
+use Rattle.lines.specs.View.{View, sort_seen}
 use Rattle.samples.specs.Samples.{floated, on_power, patterned_by, powered_by, sampled_by}
 use Rattle.samples.specs.Asked.{pattern_of, sample_of, power_of}
-use Rattle.samples.specs.declared.Sample.TheVariants as Sample
-use Rattle.samples.specs.declared.Sampled.TheVariants as Sampled
-use Rattle.samples.specs.declared.Patterned.{Patterned}
-use Rattle.samples.specs.declared.Patterned.TheVariants as Patterned
-use Rattle.samples.specs.declared.Powered.TheVariants as Powered
+use Rattle.samples.specs.declared.Sample.TheVariants.{Count, Complex}
 use Rattle.complex_rows.specs.Parts.{parts, parts_copied_by, parts_row_by, parts_copied, parts_row}
 use Rattle.complex_rows.proofs.PartLaws.{length_parts, part_real, part_imaginary}
 use Rattle.promises.specs.Shown.{line_record, Stands, data_count, data_pixels, sample}
@@ -42,15 +36,15 @@ module _ (bs : List ℕ) (k : ℕ) (p : Plan) (t : Stands bs k p) where
 
   module _ (counts : p.sort ≡ 0) (j : ℕ) (h : j < count) where
     -- what stands at sample j's place
-    pub count_named : pattern_of bs k j ≡ Patterned.Count (sample px j)
+    pub count_named : pattern_of bs k j ≡ Ok (Count (sample px j))
     unfolding pattern_of
     count_named =
         ap₂ (λ (v : View) (i : ℕ). patterned_by v i bs j) (stands_shown bs k p t) (sort_seen_lem bs p t.first ∙ counts)
         ∙ (simp (lt-ltb j count h))
-        ∙ ap Patterned.Count (two_there bs k p t counts j h)
+        ∙ ap (λ (n : ℕ). Ok (Count n)) (two_there bs k p t counts j h)
 
     -- and sample j
-    pub sample_named : sample_of bs k j ≡ Sampled.Sample (Sample.Count (sample px j))
+    pub sample_named : sample_of bs k j ≡ Ok (Count (sample px j))
     unfolding sample_of sampled_by pattern_of
     sample_named = ap floated count_named
 
@@ -70,15 +64,15 @@ module _ (bs : List ℕ) (k : ℕ) (p : Plan) (t : Stands bs k p) where
           ∙ four_there_lem bs k p t complex (8 * j + 4) (omega arith)
 
       -- both halves, bits kept
-      pub complex_named : pattern_of bs k j ≡ Patterned.Complex (record { re = real px j; im = imaginary px j })
+      pub complex_named : pattern_of bs k j ≡ Ok (Complex (real px j) (imaginary px j))
       unfolding pattern_of
       complex_named =
           ap₂ (λ (v : View) (i : ℕ). patterned_by v i bs j) (stands_shown bs k p t) seen
           ∙ (simp (lt-ltb j count h))
-          ∙ ap₂ (λ (a b : ℕ). Patterned.Complex (record { re = a; im = b })) real_there imaginary_there
+          ∙ ap₂ (λ (a b : ℕ). Ok (Complex a b)) real_there imaginary_there
 
       -- as floats
-      pub floats_named : sample_of bs k j ≡ Sampled.Sample (Sample.Complex (floats.float_of (real px j)) (floats.float_of (imaginary px j)))
+      pub floats_named : sample_of bs k j ≡ Ok (Complex (floats.float_of (real px j)) (floats.float_of (imaginary px j)))
       unfolding sample_of sampled_by pattern_of
       floats_named = ap floated complex_named
 
@@ -92,14 +86,14 @@ module _ (bs : List ℕ) (k : ℕ) (p : Plan) (t : Stands bs k p) where
 
       -- where both parts and the power are finite: two products and a sum in single precision, each rounded once, bit for bit
       pub power_is : floats.all_finite (floats.float_of (real px j)) (floats.float_of (imaginary px j)) ≡ true
-          → power_of bs k j ≡ Powered.Power (to_bits binary32 (floats.squares (floats.float_of (real px j)) (floats.float_of (imaginary px j))))
+          → power_of bs k j ≡ Ok (to_bits binary32 (floats.squares (floats.float_of (real px j)) (floats.float_of (imaginary px j))))
       unfolding floats.power_of
       power_is f = power_said ∙ (simp f)
 
     -- ---- the complex row
 
     module _ (row : List ℕ) (h : 2 * count ≤ length row) where
-      copied : parts_copied bs k (length row) ≡ Done count
+      copied : parts_copied bs k (length row) ≡ Ok count
       unfolding parts_copied
       copied =
           ap₂ (λ (v : View) (i : ℕ). parts_copied_by v i (length row)) (stands_shown bs k p t) seen ∙ (simp (le-ltb (length row) (2 * count) h))
@@ -126,7 +120,7 @@ module _ (bs : List ℕ) (k : ℕ) (p : Plan) (t : Stands bs k p) where
           ∙ ap (λ (n : ℕ). get_or row n 0) f
 
       -- numbers 2j and 2j + 1 are the parts of sample j; later numbers and the row's length stay
-      pub row_named : (parts_copied bs k (length row) ≡ Done count)
+      pub row_named : (parts_copied bs k (length row) ≡ Ok count)
           × ((j : ℕ) → j < count → (get_or (parts_row bs k row) (2 * j) 0 ≡ real px j) × (get_or (parts_row bs k row) (2 * j + 1) 0 ≡ imaginary px j))
           × ((i : ℕ) → 2 * count ≤ i → get_or (parts_row bs k row) i 0 ≡ get_or row i 0)
           × (length (parts_row bs k row) ≡ length row)

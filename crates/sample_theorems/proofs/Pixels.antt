@@ -1,9 +1,9 @@
 -- The bytes of a line's data pixels are those of the file from the line's data start on, so a number of them is read there.
 use Prim.Native.Nat.{ℕ, ◌+◌, ◌*◌, ◌≤◌, ◌<◌}
-use mathlib.Core.Path.{◌≡◌, refl, sym, ap, ◌∙◌}
+use mathlib.Core.Path.{◌≡◌, sym, ap, ◌∙◌}
 use mathlib.Core.List.{List}
 use native.Mathlib.Omega.{arith}
-use lib.ListN.{length, take, drop}
+use lib.ListN.{take, drop}
 use lib.Seq.{get_or-take, get_or-drop}
 use Rattle.words.specs.Words.{byte_at, two_at, four_at}
 use Rattle.words.proofs.Laws.{four_bytes}

@@ -7,15 +7,13 @@ use mathlib.Core.Bool.{Bool, true, false}
 use native.Mathlib.Omega.{arith}
 use lib.ListN.{length}
 use Rattle.plan.specs.Tables.{sort_of}
-use Rattle.lines.specs.View.{view_of, sort_seen}
-use Rattle.lines.specs.declared.View.{View}
-use Rattle.lines.specs.declared.View.TheVariants as View
+use Rattle.std.specs.Prelude.{Ok, Err}
+use Rattle.lines.specs.View.{View, view_of, sort_seen}
+use Rattle.lines.specs.declared.Shown.{Shown}
+use Rattle.lines.specs.declared.Unshown.TheVariants.{Wait}
 use Rattle.lines.proofs.InsideLaws.{shown_within}
-use Rattle.copies.specs.declared.Copied.TheVariants as Copied
 use Rattle.samples.specs.Samples.{is_complex, group_of, patterned_by, powered_by}
 use Rattle.samples.specs.Asked.{pattern_of, power_of}
-use Rattle.samples.specs.declared.Patterned.TheVariants as Patterned
-use Rattle.samples.specs.declared.Powered.TheVariants as Powered
 use Rattle.samples.proofs.PlaceLaws.{group_complex}
 use Rattle.samples.proofs.StayLaws as stays
 use Rattle.complex_rows.specs.Parts.{parts_copied_by, parts_row_by, parts_copied, parts_row}
@@ -32,54 +30,49 @@ group_is (suc (suc i)) h = absurd (omega arith)
 
 module _ (bs ys : List ℕ) (k : ℕ) where
   -- the data pixels of a line that is shown lie within the bytes
-  within : (start count left : ℕ) → view_of bs k ≡ View.Shown start count left → start + group_of (sort_seen bs) * count ≤ length bs
-  within start count left e =
-      let (p, t, n) = (line_named bs k start count left).0 e in
+  within : (x : Shown) → view_of bs k ≡ Ok x → x.start + group_of (sort_seen bs) * x.count ≤ length bs
+  within x e =
+      let (p, t, n) = (line_named bs k x.start x.count x.left).0 e in
       let known : sort_seen bs ≤ 1 = let a = t.first.known in omega (arith, sort_seen_lem bs p t.first) in
-      subst (λ (g : ℕ). start + g * count ≤ length bs) (sym (group_is (sort_seen bs) known)) (shown_within bs k start count left e)
+      subst (λ (g : ℕ). x.start + g * x.count ≤ length bs) (sym (group_is (sort_seen bs) known)) (shown_within bs k x.start x.count x.left e)
 
-  pub sample_stays : (i : ℕ) → ((n : ℕ) → pattern_of bs k i ≡ Patterned.Wait n → ⊥) → pattern_of (bs ++ ys) k i ≡ pattern_of bs k i
+  pub sample_stays : (i : ℕ) → ((n : ℕ) → pattern_of bs k i ≡ Err (Wait n) → ⊥) → pattern_of (bs ++ ys) k i ≡ pattern_of bs k i
   unfolding pattern_of
   sample_stays i settled =
-      let open-view : (n : ℕ) → view_of bs k ≡ View.Wait n → ⊥ = λ n e. settled n (ap (λ (v : View). patterned_by v (sort_seen bs) bs i) e) in
+      let open-view : (n : ℕ) → view_of bs k ≡ Err (Wait n) → ⊥ = λ n e. settled n (ap (λ (v : View). patterned_by v (sort_seen bs) bs i) e) in
       ap₂ (λ (s : ℕ) (v : View). patterned_by v s (bs ++ ys) i) (sort_stays bs ys k open-view) (line_stays bs ys k open-view) ∙ go (view_of bs k) refl
     where
       go : (v : View) → view_of bs k ≡ v → patterned_by v (sort_seen bs) (bs ++ ys) i ≡ patterned_by v (sort_seen bs) bs i
-      go (View.Shown start count left) e = stays.sample_stays bs ys start count left (sort_seen bs) i (within start count left e)
-      go (View.Wait n) e = refl
-      go (View.Refused r) e = refl
+      go (Ok x) e = stays.sample_stays bs ys x (sort_seen bs) i (within x e)
+      go (Err x) e = refl
 
-  pub power_stays : (i : ℕ) → ((n : ℕ) → power_of bs k i ≡ Powered.Wait n → ⊥) → power_of (bs ++ ys) k i ≡ power_of bs k i
+  pub power_stays : (i : ℕ) → ((n : ℕ) → power_of bs k i ≡ Err (Wait n) → ⊥) → power_of (bs ++ ys) k i ≡ power_of bs k i
   unfolding power_of
   power_stays i settled =
-      let open-view : (n : ℕ) → view_of bs k ≡ View.Wait n → ⊥ = λ n e. settled n (ap (λ (v : View). powered_by v (sort_seen bs) bs i) e) in
+      let open-view : (n : ℕ) → view_of bs k ≡ Err (Wait n) → ⊥ = λ n e. settled n (ap (λ (v : View). powered_by v (sort_seen bs) bs i) e) in
       ap₂ (λ (s : ℕ) (v : View). powered_by v s (bs ++ ys) i) (sort_stays bs ys k open-view) (line_stays bs ys k open-view) ∙ go (view_of bs k) refl
     where
       go : (v : View) → view_of bs k ≡ v → powered_by v (sort_seen bs) (bs ++ ys) i ≡ powered_by v (sort_seen bs) bs i
-      go (View.Shown start count left) e = stays.power_stays bs ys start count left (sort_seen bs) i (within start count left e)
-      go (View.Wait n) e = refl
-      go (View.Refused r) e = refl
+      go (Ok x) e = stays.power_stays bs ys x (sort_seen bs) i (within x e)
+      go (Err x) e = refl
 
-  pub parts_stay : (row : List ℕ) → ((n : ℕ) → parts_copied bs k (length row) ≡ Copied.Wait n → ⊥)
+  pub parts_stay : (row : List ℕ) → ((n : ℕ) → parts_copied bs k (length row) ≡ Err (Wait n) → ⊥)
       → (parts_copied (bs ++ ys) k (length row) ≡ parts_copied bs k (length row)) × (parts_row (bs ++ ys) k row ≡ parts_row bs k row)
   unfolding parts_copied parts_row
   parts_stay row settled =
-      let open-view : (n : ℕ) → view_of bs k ≡ View.Wait n → ⊥ = λ n e. settled n (ap (λ (v : View). parts_copied_by v (sort_seen bs) (length row)) e) in
+      let open-view : (n : ℕ) → view_of bs k ≡ Err (Wait n) → ⊥ = λ n e. settled n (ap (λ (v : View). parts_copied_by v (sort_seen bs) (length row)) e) in
       let s = sort_stays bs ys k open-view in
       let h = line_stays bs ys k open-view in (
         ap₂ (λ (i : ℕ) (v : View). parts_copied_by v i (length row)) s h,
         ap₂ (λ (i : ℕ) (v : View). parts_row_by v i (bs ++ ys) row) s h ∙ go (view_of bs k) refl,
       )
     where
-      shown : (start count left : ℕ) → view_of bs k ≡ View.Shown start count left → (b : Bool) → is_complex (sort_seen bs) ≡ b
-          → parts_row_by (View.Shown start count left) (sort_seen bs) (bs ++ ys) row ≡ parts_row_by (View.Shown start count left) (sort_seen bs) bs row
-      shown start count left e true c =
-          row_stays bs ys row start count left (sort_seen bs)
-          (subst (λ (g : ℕ). start + g * count ≤ length bs) (group_complex (sort_seen bs) c) (within start count left e))
-      shown start count left e false c =
-          row_counts (bs ++ ys) row start count left (sort_seen bs) c ∙ sym (row_counts bs row start count left (sort_seen bs) c)
+      shown : (x : Shown) → view_of bs k ≡ Ok x → (b : Bool) → is_complex (sort_seen bs) ≡ b
+          → parts_row_by (Ok x) (sort_seen bs) (bs ++ ys) row ≡ parts_row_by (Ok x) (sort_seen bs) bs row
+      shown x e true c =
+          row_stays bs ys row x (sort_seen bs) (subst (λ (g : ℕ). x.start + g * x.count ≤ length bs) (group_complex (sort_seen bs) c) (within x e))
+      shown x e false c = row_counts (bs ++ ys) row x (sort_seen bs) c ∙ sym (row_counts bs row x (sort_seen bs) c)
 
       go : (v : View) → view_of bs k ≡ v → parts_row_by v (sort_seen bs) (bs ++ ys) row ≡ parts_row_by v (sort_seen bs) bs row
-      go (View.Shown start count left) e = shown start count left e (is_complex (sort_seen bs)) refl
-      go (View.Wait n) e = refl
-      go (View.Refused r) e = refl
+      go (Ok x) e = shown x e (is_complex (sort_seen bs)) refl
+      go (Err x) e = refl

@@ -1,49 +1,23 @@
 -- Where a sample stands: a place behind the bytes is clipped to their end, and reads the same there.
 use Prim.Native.Nat.{ℕ, ◌+◌, ◌*◌, ◌≤◌, ◌<◌}
-use mathlib.Core.Path.{◌≡◌, refl, sym, ap, ◌∙◌}
+use mathlib.Core.Path.{◌≡◌, refl, ap, ◌∙◌}
 use mathlib.Core.List.{List}
 use mathlib.Core.Bool.{Bool, true, false}
 use native.Mathlib.Omega.{arith}
 use lib.Dec.{ltb}
 use lib.ListN.{length}
-use borrow.Author.Tests.{le-ltb, ltb-true, ltb-false}
+use borrow.Author.Tests.{ltb-false}
 use Rattle.words.specs.Tests.{pick}
-use Rattle.words.specs.Words.{two_at, four_at}
+use Rattle.words.specs.Words.{two_at}
 use Rattle.words.proofs.Laws.{two_none, four_none}
 use Rattle.samples.specs.declared.Pattern.{Pattern}
-use Rattle.samples.specs.declared.Patterned.{Patterned}
-use Rattle.samples.specs.declared.Patterned.TheVariants as Patterned
+use Rattle.samples.specs.declared.Sample.TheVariants.{Count, Complex}
 use Rattle.samples.specs.Samples.{is_complex, group_of, place_in, clipped, pattern_at, stands_at}
 
 -- ---- bytes a sample
 
 pub group_complex : (sort : ℕ) → is_complex sort ≡ true → group_of sort ≡ 8
 group_complex sort e = ap (λ (b : Bool). pick b 8 2) e
-
-pub group_counts : (sort : ℕ) → is_complex sort ≡ false → group_of sort ≡ 2
-group_counts sort e = ap (λ (b : Bool). pick b 8 2) e
-
--- ---- the clipped place
-
-clip_out : (len at : ℕ) → len ≤ at → len ≡ clipped len at
-clip_out len at h = sym (ap (λ (b : Bool). pick b at len) (le-ltb at len h))
-
-clip_in : (len at : ℕ) → at ≤ len → at ≡ clipped len at
-clip_in len at h = go (ltb at len) refl
-  where
-    go : (b : Bool) → ltb at len ≡ b → at ≡ pick b at len
-    go true e = refl
-    go false e = omega (arith, ltb-false at len e)
-
-module _ (len start sort g i : ℕ) (is : group_of sort ≡ g) where
-  pub behind : len ≤ start + g * i → len ≡ clipped len (start + group_of sort * i)
-  behind h = clip_out len (start + g * i) h ∙ ap (λ (n : ℕ). clipped len (start + n * i)) (sym is)
-
-  pub within : start + g * i ≤ len → start + g * i ≡ clipped len (start + group_of sort * i)
-  within h = clip_in len (start + g * i) h ∙ ap (λ (n : ℕ). clipped len (start + n * i)) (sym is)
-
-pub far : (len start x : ℕ) → len ≤ start → len ≡ clipped len (start + x)
-far len start x h = clip_out len (start + x) (omega arith)
 
 -- ---- what stands at the clipped place
 
@@ -71,8 +45,8 @@ module _ (bs : List ℕ) (at : ℕ) where
 
   pub stands_clipped : (sort : ℕ) → stands_at sort bs (clipped (length bs) at) ≡ stands_at sort bs at
   stands_clipped sort =
-      ap (λ (p : Pattern). pick (is_complex sort) (Patterned.Complex p) (Patterned.Count (two_at bs (clipped (length bs) at)))) pattern_clipped
-      ∙ ap (λ (n : ℕ). pick (is_complex sort) (Patterned.Complex (pattern_at bs at)) (Patterned.Count n)) count_clipped
+      ap (λ (p : Pattern). pick (is_complex sort) (Complex p.re p.im) (Count (two_at bs (clipped (length bs) at)))) pattern_clipped
+      ∙ ap (λ (n : ℕ). pick (is_complex sort) (Complex (pattern_at bs at).re (pattern_at bs at).im) (Count n)) count_clipped
 
 -- ---- where the line's data pixels lie within the bytes, each sample does: no byte of it is made up
 

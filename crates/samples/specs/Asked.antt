@@ -1,10 +1,7 @@
 -- One sample of a line, asked of an image prefix held from byte 0 (document 02, No. 2): what `Samples` says of the line view there. Assumes nothing.
 use Rattle.std.specs.Prelude.{ℕ, List}
 use Rattle.lines.specs.View.{view_of, sort_seen}
-use Rattle.samples.specs.Samples.{patterned_by, sampled_by, powered_by}
-use Rattle.samples.specs.declared.Patterned.{Patterned}
-use Rattle.samples.specs.declared.Sampled.{Sampled}
-use Rattle.samples.specs.declared.Powered.{Powered}
+use Rattle.samples.specs.Samples.{Patterned, Sampled, Powered, patterned_by, sampled_by, powered_by}
 
 -- what stands at sample i of line k, bits kept
 unfoldable pub pattern_of : List ℕ → ℕ → ℕ → Patterned

@@ -1,25 +1,30 @@
 -- One sample of a line (request No. 2), asked of what the line view shows: what stands at its place, its floats, its power. The view is a value
 -- here, so that every view may stand for it; a byte past the end of the bytes counts as 0. Assumes nothing.
-use Rattle.std.specs.Prelude.{ℕ, ◌+◌, ◌*◌, Bool, true, not, List, ltb, eqb}
+use Rattle.std.specs.Prelude.{ℕ, ◌+◌, ◌*◌, Bool, true, not, List, ltb, eqb, Float, Option, ok_or, Result, Ok, Err}
 use Rattle.std.specs.Float.{binary32}
 use Rattle.std.specs.Float.Ieee.{to_bits, nan_bits}
 use Rattle.words.specs.Tests.{pick, both_of}
 use Rattle.words.specs.Words.{two_at, four_at}
 use Rattle.words.specs.Answer.{bare_refusal}
 use Rattle.floats.specs.Floats.{float_of, power_of}
-use Rattle.floats.specs.declared.Power.{Power}
-use Rattle.floats.specs.declared.Power.TheVariants.{Bits, NotFinite}
-use Rattle.lines.specs.declared.View.{View}
-use Rattle.lines.specs.declared.View.TheVariants as View
+use Rattle.lines.specs.View.{View}
+use Rattle.lines.specs.declared.Unshown.{Unshown}
+use Rattle.lines.specs.declared.Unshown.TheVariants.{Refused}
 use Rattle.samples.specs.declared.Sample.{Sample}
-use Rattle.samples.specs.declared.Sample.TheVariants as Sample
+use Rattle.samples.specs.declared.Sample.TheVariants.{Count, Complex}
 use Rattle.samples.specs.declared.Pattern.{Pattern}
-use Rattle.samples.specs.declared.Patterned.{Patterned}
-use Rattle.samples.specs.declared.Patterned.TheVariants as Patterned
-use Rattle.samples.specs.declared.Sampled.{Sampled}
-use Rattle.samples.specs.declared.Sampled.TheVariants as Sampled
-use Rattle.samples.specs.declared.Powered.{Powered}
-use Rattle.samples.specs.declared.Powered.TheVariants as Powered
+
+-- what stands at a sample's place, its parts by their patterns; or a wait or a refusal
+abbrev pub Patterned : Type 0
+Patterned = Result (Sample ℕ) Unshown
+
+-- what the sample reader answers: the parts are floats
+abbrev pub Sampled : Type 0
+Sampled = Result (Sample Float) Unshown
+
+-- what is said of a sample's power: its pattern
+abbrev pub Powered : Type 0
+Powered = Result ℕ Unshown
 
 -- the sorts by number: 1 is complex, 0 is counts
 abbrev pub is_complex : ℕ → Bool
@@ -42,30 +47,30 @@ abbrev pub pattern_at : List ℕ → ℕ → Pattern
 pattern_at bs at = record { re = four_at bs at; im = four_at bs (at + 4) }
 
 -- two patterns, or a whole count of two bytes, high byte first
-abbrev pub stands_at : ℕ → List ℕ → ℕ → Patterned
-stands_at sort bs at = pick (is_complex sort) (Patterned.Complex (pattern_at bs at)) (Patterned.Count (two_at bs at))
+abbrev pub stands_at : ℕ → List ℕ → ℕ → Sample ℕ
+stands_at sort bs at = pick (is_complex sort) (Complex (pattern_at bs at).re (pattern_at bs at).im) (Count (two_at bs at))
 
 -- what stands at sample i of what the view shows, bits kept; 36 outside the line's data pixels
 abbrev pub patterned_by : View → ℕ → List ℕ → ℕ → Patterned
-patterned_by (View.Shown start count left) sort bs i = pick (ltb i count) (stands_at sort bs (place_in start sort i)) (Patterned.Refused (bare_refusal 36))
-patterned_by (View.Wait n) sort bs i = Patterned.Wait n
-patterned_by (View.Refused r) sort bs i = Patterned.Refused r
+patterned_by (Ok x) sort bs i = pick (ltb i x.count) (Ok (stands_at sort bs (place_in x.start sort i))) (Err (Refused (bare_refusal 36)))
+patterned_by (Err x) sort bs i = Err x
 
 -- a count as it is, and two patterns as two floats
+abbrev pub floats : Sample ℕ → Sample Float
+floats (Count n) = Count n
+floats (Complex re im) = Complex (float_of re) (float_of im)
+
 abbrev pub floated : Patterned → Sampled
-floated (Patterned.Count n) = Sampled.Sample (Sample.Count n)
-floated (Patterned.Complex p) = Sampled.Sample (Sample.Complex (float_of p.re) (float_of p.im))
-floated (Patterned.Wait n) = Sampled.Wait n
-floated (Patterned.Refused r) = Sampled.Refused r
+floated (Ok x) = Ok (floats x)
+floated (Err x) = Err x
 
 -- sample i of what the view shows
 unfoldable pub sampled_by : View → ℕ → List ℕ → ℕ → Sampled
 sampled_by v sort bs i = floated (patterned_by v sort bs i)
 
 -- 24, last: a part or the power is not finite
-abbrev pub on_power : Power → Powered
-on_power (Bits n) = Powered.Power n
-on_power NotFinite = Powered.Refused (bare_refusal 24)
+abbrev pub on_power : Option ℕ → Powered
+on_power x = ok_or x (Refused (bare_refusal 24))
 
 -- the power of a complex sample that stands there
 abbrev pub power_at : List ℕ → ℕ → Powered
@@ -73,21 +78,18 @@ power_at bs at = on_power (power_of (four_at bs at) (four_at bs (at + 4)))
 
 -- the power of sample i of what the view shows: 23 for counts, then 36, then 24
 abbrev pub powered_by : View → ℕ → List ℕ → ℕ → Powered
-powered_by (View.Shown start count left) sort bs i =
-    pick (is_complex sort) (pick (ltb i count) (power_at bs (place_in start sort i)) (Powered.Refused (bare_refusal 36))) (Powered.Refused (bare_refusal 23))
-powered_by (View.Wait n) sort bs i = Powered.Wait n
-powered_by (View.Refused r) sort bs i = Powered.Refused r
+powered_by (Ok x) sort bs i =
+    pick (is_complex sort) (pick (ltb i x.count) (power_at bs (place_in x.start sort i)) (Err (Refused (bare_refusal 36)))) (Err (Refused (bare_refusal 23)))
+powered_by (Err x) sort bs i = Err x
 
 -- the patterns that a sample's floats have, the way back from `floated`; it says nothing of a NaN's
 abbrev pub bits_of : Sampled → Patterned
-bits_of (Sampled.Sample (Sample.Count n)) = Patterned.Count n
-bits_of (Sampled.Sample (Sample.Complex x y)) = Patterned.Complex (record { re = to_bits binary32 x; im = to_bits binary32 y })
-bits_of (Sampled.Wait n) = Patterned.Wait n
-bits_of (Sampled.Refused r) = Patterned.Refused r
+bits_of (Ok (Count n)) = Ok (Count n)
+bits_of (Ok (Complex x y)) = Ok (Complex (to_bits binary32 x) (to_bits binary32 y))
+bits_of (Err x) = Err x
 
 -- neither part is a NaN's pattern
 abbrev pub no_nan : Patterned → Bool
-no_nan (Patterned.Count n) = true
-no_nan (Patterned.Complex p) = both_of (not (nan_bits binary32 p.re)) (not (nan_bits binary32 p.im))
-no_nan (Patterned.Wait n) = true
-no_nan (Patterned.Refused r) = true
+no_nan (Ok (Count n)) = true
+no_nan (Ok (Complex re im)) = both_of (not (nan_bits binary32 re)) (not (nan_bits binary32 im))
+no_nan (Err x) = true

@@ -3,21 +3,19 @@
 #![tactic(auto)]
 
 ghost use Rattle.std.specs.Prelude.{◌≡◌, ◌+◌, ◌*◌, ◌≤◌, length};
-ghost use Rattle.samples.specs.Samples.{is_complex, group_of, clipped, pattern_at, stands_at, patterned_by, floated, sampled_by, on_power, powered_by};
+ghost use Rattle.samples.specs.Samples.{is_complex, group_of, clipped, pattern_at, stands_at, patterned_by, floats, sampled_by, powered_by};
 ghost use Rattle.samples.specs.Asked.{pattern_of, sample_of, power_of};
 
-use floats::Power;
-use lines::View;
-use words::Refusal;
+use lines::{Unshown, View};
 
 // The number of the complex sort; 0 is counts.
 pub const COMPLEX: u64 = 1;
 
-// One sample: a whole count, or two floats, real then imaginary.
+// One sample: a whole count, or two parts, real then imaginary.
 #[derive(Clone, Copy)]
-pub enum Sample {
+pub enum Sample<T> {
     Count(u16),
-    Complex(f32, f32),
+    Complex(T, T),
 }
 
 // The patterns of a complex sample's parts. A float cannot keep a NaN's bits; these are kept whatever they are.
@@ -28,29 +26,13 @@ pub struct Pattern {
 }
 
 // What stands at a sample's place, bits kept; or the view's own wait or refusal, or 36.
-#[derive(Clone, Copy)]
-pub enum Patterned {
-    Count(u16),
-    Complex(Pattern),
-    Wait(u64),
-    Refused(Refusal),
-}
+pub type Patterned = Result<Sample<u32>, Unshown>;
 
-// What the sample reader answers.
-#[derive(Clone, Copy)]
-pub enum Sampled {
-    Sample(Sample),
-    Wait(u64),
-    Refused(Refusal),
-}
+// What the sample reader answers: a whole count, or two floats; or what a `Patterned` has instead.
+pub type Sampled = Result<Sample<f32>, Unshown>;
 
 // What is said of a sample's power: its pattern; or the view's own wait or refusal, 23, 36 or 24.
-#[derive(Clone, Copy)]
-pub enum Powered {
-    Power(u32),
-    Wait(u64),
-    Refused(Refusal),
-}
+pub type Powered = Result<u32, Unshown>;
 
 // Samples of this sort are complex.
 pub fn is_complex(sort: u64) -> bool
@@ -63,20 +45,8 @@ pub fn is_complex(sort: u64) -> bool
 fn place_of(len: u64, start: u64, sort: u64, index: u64) -> u64
     ensures { (result ≡ clipped len (start + group_of sort * index)) × (result ≤ len) }
 {
-    if start >= len {
-        return len;
-    }
-    let room = len - start;
-    if is_complex(sort) {
-        if index > room / 8 {
-            return len;
-        }
-        return start + 8 * index;
-    }
-    if index > room / 2 {
-        return len;
-    }
-    start + 2 * index
+    let group = if is_complex(sort) { 8 } else { 2 };
+    start.saturating_add(index.saturating_mul(group)).min(len)
 }
 
 // The two patterns that stand there, high byte first.
@@ -93,46 +63,37 @@ fn patterns_there(bytes: &[u8], at: usize) -> Pattern
 }
 
 // What stands there, by the sort: the one reader of both.
-fn stands_at(bytes: &[u8], sort: u64, at: usize) -> Patterned
+fn stands_at(bytes: &[u8], sort: u64, at: usize) -> Sample<u32>
     requires { at ≤ length bytes.now }
     ensures { result ≡ stands_at sort bytes.now at }
 {
     if is_complex(sort) {
-        return Patterned::Complex(patterns_there(bytes, at));
+        let p = patterns_there(bytes, at);
+        return Sample::Complex(p.re, p.im);
     }
     let n = words::two(bytes, at);
-    Patterned::Count(n as u16)
+    Sample::Count(n as u16)
 }
 
 // Sample `index`, from 0, of what the view shows, bits kept; 36 where the line has no such data pixel.
 pub fn pattern_in(bytes: &[u8], v: View, sort: u64, index: u64) -> Patterned
     ensures { result ≡ patterned_by v sort bytes.now index }
 {
-    match v {
-        View::Wait(n) => Patterned::Wait(n),
-        View::Refused(r) => Patterned::Refused(r),
-        View::Shown(start, count, _) => {
-            if index < count {
-                let at = place_of(bytes.len() as u64, start, sort, index);
-                return stands_at(bytes, sort, at as usize);
-            }
-            Patterned::Refused(words::bare(36))
-        }
+    let shown = v?;
+    if index < shown.count {
+        let at = place_of(bytes.len() as u64, shown.start, sort, index);
+        return Ok(stands_at(bytes, sort, at as usize));
     }
+    Err(Unshown::Refused(words::bare(36)))
 }
 
 // The floats of what stands there.
-fn floats_of(x: Patterned) -> Sampled
-    ensures { result ≡ floated x }
+fn floats_of(x: Sample<u32>) -> Sample<f32>
+    ensures { result ≡ floats x }
 {
     match x {
-        Patterned::Count(n) => Sampled::Sample(Sample::Count(n)),
-        Patterned::Complex(p) => Sampled::Sample(Sample::Complex(
-            floats::float_of(p.re),
-            floats::float_of(p.im),
-        )),
-        Patterned::Wait(n) => Sampled::Wait(n),
-        Patterned::Refused(r) => Sampled::Refused(r),
+        Sample::Count(n) => Sample::Count(n),
+        Sample::Complex(re, im) => Sample::Complex(floats::float_of(re), floats::float_of(im)),
     }
 }
 
@@ -140,38 +101,23 @@ fn floats_of(x: Patterned) -> Sampled
 pub fn sample_in(bytes: &[u8], v: View, sort: u64, index: u64) -> Sampled
     ensures { result ≡ sampled_by v sort bytes.now index }
 {
-    floats_of(pattern_in(bytes, v, sort, index))
-}
-
-// A power, or 24.
-fn strength(p: Power) -> Powered
-    ensures { result ≡ on_power p }
-{
-    match p {
-        Power::Bits(n) => Powered::Power(n),
-        Power::NotFinite => Powered::Refused(words::bare(24)),
-    }
+    pattern_in(bytes, v, sort, index).map(floats_of)
 }
 
 // The power of sample `index`: 23 for counts, then 36, then 24.
 pub fn power_in(bytes: &[u8], v: View, sort: u64, index: u64) -> Powered
     ensures { result ≡ powered_by v sort bytes.now index }
 {
-    match v {
-        View::Wait(n) => Powered::Wait(n),
-        View::Refused(r) => Powered::Refused(r),
-        View::Shown(start, count, _) => {
-            if is_complex(sort) {
-                if index < count {
-                    let at = place_of(bytes.len() as u64, start, sort, index);
-                    let p = patterns_there(bytes, at as usize);
-                    return strength(floats::power_of(p.re, p.im));
-                }
-                return Powered::Refused(words::bare(36));
-            }
-            Powered::Refused(words::bare(23))
-        }
+    let shown = v?;
+    if !is_complex(sort) {
+        return Err(Unshown::Refused(words::bare(23)));
     }
+    if index >= shown.count {
+        return Err(Unshown::Refused(words::bare(36)));
+    }
+    let at = place_of(bytes.len() as u64, shown.start, sort, index);
+    let p = patterns_there(bytes, at as usize);
+    floats::power_of(p.re, p.im).ok_or(Unshown::Refused(words::bare(24)))
 }
 
 // Sample `index`, from 0, of line k of an image prefix held from byte 0, bits kept: the line's own wait or
@@ -180,8 +126,7 @@ pub fn pattern_at(bytes: &[u8], k: u64, index: u64) -> Patterned
     ensures { result ≡ pattern_of bytes.now k index }
 {
     let x = lines::sorted_view(bytes, k);
-    let v = x.view;
-    pattern_in(bytes, v, x.sort, index)
+    pattern_in(bytes, x.view, x.sort, index)
 }
 
 // The same sample, as a count or two floats: the one reader of both sorts.
@@ -189,8 +134,7 @@ pub fn sample_at(bytes: &[u8], k: u64, index: u64) -> Sampled
     ensures { result ≡ sample_of bytes.now k index }
 {
     let x = lines::sorted_view(bytes, k);
-    let v = x.view;
-    sample_in(bytes, v, x.sort, index)
+    sample_in(bytes, x.view, x.sort, index)
 }
 
 // Its power: the line's own, then 23 for counts, 36, 24.
@@ -198,6 +142,5 @@ pub fn power_at(bytes: &[u8], k: u64, index: u64) -> Powered
     ensures { result ≡ power_of bytes.now k index }
 {
     let x = lines::sorted_view(bytes, k);
-    let v = x.view;
-    power_in(bytes, v, x.sort, index)
+    power_in(bytes, x.view, x.sort, index)
 }

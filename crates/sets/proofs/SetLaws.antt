@@ -1,52 +1,28 @@
--- The set check one step at a time: pointer after pointer, and behind the directory's walk, whose state is good and so has at most six pointers.
-use Prim.Native.Nat.{ℕ, ◌+◌, ◌≤◌, ◌<◌}
+-- The set check behind the directory's walk, whose state is good and so has at most six pointers.
+use Prim.Native.Nat.{ℕ, ◌≤◌}
 use mathlib.Core.Path.{◌≡◌, refl, sym, ap, ◌∙◌, subst}
-use mathlib.Core.List.{List, [], ◌∷◌}
+use mathlib.Core.List.{List}
 use mathlib.Core.Bool.{true}
 use mathlib.Core.Logic.{⊎_elim}
-use native.Mathlib.Numerals.{add-one}
 use native.Mathlib.Omega.{arith}
 use lib.Dec.{eqb}
-use lib.ListN.{length, get_or, drop, drop_of_length-le}
-use lib.Seq.{drop-cons}
+use lib.ListN.{length}
 use borrow.Author.Tests.{eq-eqb, ne_eqb, eqb-true, eqb-false}
-use Rattle.words.specs.Tests.{pick, within_of}
+use Rattle.std.specs.Prelude.{Err}
+use Rattle.words.specs.Tests.{within_of}
 use Rattle.words.specs.Words.{place_of}
 use Rattle.words.specs.declared.Refusal.{Refusal}
 use Rattle.words.proofs.Laws.{both_l, both_r, cases, within_true}
 use Rattle.plan.specs.Plan.{volume, zero_plan?, volume_good, plan_good}
 use Rattle.plan.specs.declared.Plan.{Plan}
 use Rattle.walk.specs.State.{fresh, good_state}
-use Rattle.walk.specs.Walk.{walk_of, begin_of}
-use Rattle.walk.specs.declared.Begun.{Begun}
 use Rattle.walk.specs.declared.State.{State}
 use Rattle.turns.specs.declared.Stop.{Stop}
-use Rattle.turns.specs.declared.Stop.TheVariants.{Wait, Pause, Complete, Refused as Refused'}
+use Rattle.turns.specs.declared.Stop.TheVariants.{Wait, Pause, Complete, Refused}
 use Rattle.walk.specs.declared.Walked.{Walked}
-use Rattle.walk.proofs.BegunLaws.{begun_walks}
 use Rattle.walk.proofs.GoodLaws.{good_zero, good_later, fresh_good}
 use Rattle.walk.proofs.KeptLaws.{good_kept, kind_kept}
-use Rattle.sets.specs.Set.{differs, count_byte, count_of, compare_from, compare_of, behind_walk, directory, set_of}
-use Rattle.sets.specs.declared.Agreement.{Agreement}
-use Rattle.sets.specs.declared.Agreement.TheVariants.{Refused}
-
--- ---- pointer after pointer
-
-module _ (bs cs : List ℕ) (i p : ℕ) where
-  compare_at : i < length cs
-      → compare_from p bs (drop i cs) ≡ pick (eqb (get_or cs i 0) (count_of bs p)) (compare_from (p + 1) bs (drop (i + 1) cs))
-      (differs (place_of (count_byte p)))
-  unfolding compare_from
-  compare_at h = rw (add-one i, drop-cons cs i 0 h)
-
-  pub compare_differs : i < length cs → (get_or cs i 0 ≡ count_of bs p → ⊥) → differs (place_of (count_byte p)) ≡ compare_from p bs (drop i cs)
-  compare_differs h n = sym (compare_at h ∙ simp (ne_eqb _ _ n))
-
-  pub compare_same : i < length cs → get_or cs i 0 ≡ count_of bs p → compare_from p bs (drop i cs) ≡ compare_from (p + 1) bs (drop (i + 1) cs)
-  compare_same h e = compare_at h ∙ simp (eq-eqb _ _ e)
-
-  pub compare_end : length cs ≤ i → compare_from p bs (drop i cs) ≡ compare_from p bs []
-  compare_end h = ap (compare_from p bs) (drop_of_length-le cs h)
+use Rattle.sets.specs.Set.{Agreement, differs, compare_from, compare_of, behind_walk, directory, set_of}
 
 -- ---- behind the directory's walk
 
@@ -70,25 +46,22 @@ pub few_pointers : (bs : List ℕ) → (directory bs).state.plan.pointers ≤ 6
 few_pointers bs =
     few_good (directory bs).state (good_kept 9 (fresh volume) bs true (fresh_good volume (omega arith) (omega arith))) (kind_kept 9 (fresh volume) bs true)
 
-not_refused : (x : Stop) (a : Agreement) → ((r : Refusal) → x ≡ Refused' r → ⊥) → behind_walk x a ≡ a
+not_refused : (x : Stop) (a : Agreement) → ((r : Refusal) → x ≡ Refused r → ⊥) → behind_walk x a ≡ a
 not_refused (Wait n) a o = refl
 not_refused Pause a o = refl
 not_refused Complete a o = refl
-not_refused (Refused' r) a o = absurd (o r refl)
+not_refused (Refused r) a o = absurd (o r refl)
 
 -- the walk as the code has it, and the answer by its stop
-module _ (bs cs : List ℕ) (b : Begun) (w : Walked) (begins : b ≡ begin_of volume) (walks : w ≡ walk_of 9 b.state bs true) where
-  pub walk_is : w ≡ directory bs
-  walk_is = begun_walks volume 9 bs true refl b w begins walks
-
+module _ (bs cs : List ℕ) (w : Walked) (walk_is : w ≡ directory bs) where
   set_is : set_of bs cs ≡ behind_walk w.stop (compare_of w.state.plan.pointers bs cs)
   unfolding set_of
   set_is = ap (λ (x : Walked). behind_walk x.stop (compare_of x.state.plan.pointers bs cs)) (sym walk_is)
 
-  pub set_refused : (r : Refusal) → w.stop ≡ Refused' r → Refused r ≡ set_of bs cs
+  pub set_refused : (r : Refusal) → w.stop ≡ Refused r → Err r ≡ set_of bs cs
   set_refused r e = sym (set_is ∙ ap (λ (x : Stop). behind_walk x (compare_of w.state.plan.pointers bs cs)) e)
 
-  module _ (o : (r : Refusal) → w.stop ≡ Refused' r → ⊥) where
+  module _ (o : (r : Refusal) → w.stop ≡ Refused r → ⊥) where
     pub set_length : (length cs ≡ w.state.plan.pointers → ⊥) → differs (place_of 161) ≡ set_of bs cs
     unfolding compare_of
     set_length n = sym (set_is ∙ not_refused w.stop _ o ∙ simp (ne_eqb _ _ n))

@@ -10,33 +10,28 @@ use walk::State;
 use words::Refusal;
 
 // The set agrees with its directory, or why not.
-#[derive(Clone, Copy)]
-pub enum Agreement {
-    Agrees,
-    Refused(Refusal),
-}
+pub type Agreement = Result<(), Refusal>;
 
 // 12, at that place in the directory.
 fn differing(place: u64) -> Agreement
     ensures { result ≡ differs place }
 {
-    Agreement::Refused(words::at_place(12, place))
+    Err(words::at_place(12, place))
 }
 
 // The first pointer whose count differs.
+#[tactic(auto, unfolding(crate::specs::Set::compare_from, crate::specs::Set::count_of))]
 fn compare(directory: &[u8], counts: &[u64]) -> Agreement
     requires { length counts.now ≤ 6 }
     ensures { result ≡ compare_from 1 directory.now counts.now }
 {
-    let mut i = 0;
-    while i < counts.len() {
+    for (i, count) in counts.iter().enumerate() {
         let byte = 360 * (i + 1) + 101;
-        if counts[i] != volume::count_at(directory, byte) {
+        if *count != volume::count_at(directory, byte) {
             return differing(words::place(byte) as u64);
         }
-        i += 1;
     }
-    Agreement::Agrees
+    Ok(())
 }
 
 // The directory's own refusal first; then a list of the wrong length, 12 at the pointer count; then
@@ -44,16 +39,12 @@ fn compare(directory: &[u8], counts: &[u64]) -> Agreement
 pub fn check(directory: &[u8], counts: &[u64]) -> Agreement
     ensures { result ≡ set_of directory.now counts.now }
 {
-    let begun = State::none().begin(plan::VOLUME);
-    let fresh = begun.state;
+    let fresh = State::none().begin(plan::VOLUME)?;
     let walked = fresh.walk(directory, true, 9);
-    let stop = walked.stop;
-    if let Stop::Refused(r) = stop {
-        return Agreement::Refused(r);
+    if let Stop::Refused(r) = walked.stop {
+        return Err(r);
     }
-    let st = walked.state;
-    let p = st.plan;
-    if counts.len() as u64 != p.pointers {
+    if counts.len() as u64 != walked.state.plan.pointers {
         return differing(words::place(161) as u64);
     }
     compare(directory, counts)

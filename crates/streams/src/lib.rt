@@ -2,124 +2,112 @@
 // prints what it says. No contract can say what a stream gives: what is promised here is that it ends.
 #![tactic(auto)]
 
-ghost use Rattle.std.specs.Prelude.{◌≡◌, ◌≤◌, length};
-
 use listing::Say;
 use rows::Row;
+use std::fmt;
 use std::io::{Read, Write};
 use walk::State;
 
-// Where the listing stands: the state, how many bytes of the next record are held, whether the input
-// has ended, and whether to go on.
+// Room for one record, the longest that a turn holds.
+const RECORD: usize = 32768;
+
+// Where the listing stands: the state, how many bytes of the next record are held, and whether the input
+// has ended.
 #[derive(Clone, Copy)]
 struct Going {
     state: State,
     held: usize,
     closed: bool,
-    on: bool,
 }
 
-// Something failed: said where errors go. Where that fails too, there is nobody to tell.
-fn fail<E: Write>(errors: &mut E, what: &[u8]) {
-    let _ = errors.write_all(b"ceoslist: ");
-    let _ = errors.write_all(what);
-    let _ = errors.write_all(b" failed\n");
+// What a stream did not do.
+#[derive(Clone, Copy)]
+enum Failed {
+    Read,
+    Write,
 }
 
-// A row is printed; whether it could be.
-fn print<W: Write, E: Write>(row: Row, output: &mut W, errors: &mut E) -> bool {
+impl fmt::Display for Failed {
+    fn fmt<W: fmt::Write>(&self, f: &mut fmt::Formatter<W>) -> fmt::Result {
+        f.write_str(match self {
+            Failed::Read => "read failed",
+            Failed::Write => "write failed",
+        })
+    }
+}
+
+fn print<W: Write>(row: Row, output: &mut W) -> Result<(), Failed> {
     let mut line = [0u8; 96];
-    let n = rows::spell(row, &mut line);
-    if output.write_all(&line[..n]).is_ok() {
-        return true;
+    let length = rows::spell(row, &mut line);
+    output.write_all(&line[..length]).map_err(|_| Failed::Write)
+}
+
+impl Going {
+    // At most so many bytes more are read behind those held, by one read. No byte is the input's end; an
+    // error is not, and nothing more is printed then.
+    fn fetch<R: Read>(self, buffer: &mut [u8], want: u64, input: &mut R) -> Result<Going, Failed> {
+        let from = self.held.min(buffer.len());
+        let most = (want as usize).min(buffer.len() - from);
+        let room = &mut buffer[from..from + most];
+        let got = input.read(room).map_err(|_| Failed::Read)?;
+        Ok(Going {
+            held: from + got,
+            closed: got == 0,
+            ..self
+        })
     }
-    fail(errors, b"write");
-    false
-}
 
-// At most so many bytes more are read behind those held, by one read. No byte is the input's end; an
-// error is not, and nothing more is printed then.
-fn fetch<R: Read, E: Write>(
-    g: Going,
-    buffer: &mut [u8],
-    want: u64,
-    input: &mut R,
-    errors: &mut E,
-) -> Going {
-    let mut next = g;
-    let from = least(g.held, buffer.len());
-    let to = from + least(want as usize, buffer.len() - from);
-    match input.read(&mut buffer[from..to]) {
-        Ok(got) => {
-            next.held = from + got;
-            next.closed = got == 0;
-        }
-        Err(_) => {
-            fail(errors, b"read");
-            next.on = false;
-        }
-    }
-    next
-}
-
-fn least(a: usize, b: usize) -> usize
-    ensures { (result ≤ a) × (result ≤ b) }
-{
-    if a < b { a } else { b }
-}
-
-// One turn, and what it asks for. No more is read than is wanted, so a record that passes is all that
-// is held.
-fn advance<R: Read, W: Write, E: Write>(
-    g: Going,
-    buffer: &mut [u8],
-    input: &mut R,
-    output: &mut W,
-    errors: &mut E,
-) -> Going {
-    let n = least(g.held, buffer.len());
-    let st = g.state;
-    let t = listing::turn(st, &buffer[..n], g.closed);
-    let after = t.state;
-    let say = t.say;
-    match say {
-        Say::Want(m) => fetch(g, buffer, m, input, errors),
-        Say::Next(row) => Going {
-            state: after,
-            held: 0,
-            closed: g.closed,
-            on: print(row, output, errors),
-        },
-        Say::Last(row) => {
-            print(row, output, errors);
-            let mut last = g;
-            last.on = false;
-            last
+    // One turn, and what it asks for; behind the last row nothing goes on. No more is read than is wanted,
+    // so a record that passes is all that is held.
+    fn advance<R: Read, W: Write>(
+        self,
+        buffer: &mut [u8],
+        input: &mut R,
+        output: &mut W,
+    ) -> Result<Option<Going>, Failed> {
+        let held = self.held.min(buffer.len());
+        let told = listing::turn(self.state, &buffer[..held], self.closed);
+        match told.say {
+            Say::Want(bytes) => Ok(Some(self.fetch(buffer, bytes, input)?)),
+            Say::Next(row) => {
+                print(row, output)?;
+                Ok(Some(Going {
+                    state: told.state,
+                    held: 0,
+                    ..self
+                }))
+            }
+            Say::Last(row) => {
+                print(row, output)?;
+                Ok(None)
+            }
         }
     }
 }
 
-// Room for one record. The `ensures` gives only the length, which lending it as a slice needs.
-fn record_buffer() -> [u8; 32768]
-    ensures { 32768 ≡ length result }
-{
-    [0; 32768]
-}
-
-// Lists the image that the input gives, as a stream: a row is printed as soon as its record has passed,
-// where neither stream keeps a buffer (std's own keep none). A proved loop has to end, so the turns are
-// counted down from a number that no run uses up.
-pub fn list<R: Read, W: Write, E: Write>(input: &mut R, output: &mut W, errors: &mut E) {
-    let mut buffer = record_buffer();
-    let mut g = Going {
+// The turns, to the last row. A proved loop has to end, so they are counted up to a number that no run
+// reaches.
+fn list_rows<R: Read, W: Write>(input: &mut R, output: &mut W) -> Result<(), Failed> {
+    let mut buffer = [0; RECORD];
+    let mut going = Going {
         state: listing::begin(),
         held: 0,
         closed: false,
-        on: true,
     };
-    let mut turns = u64::MAX;
-    while turns > 0 && g.on {
-        g = advance(g, &mut buffer, input, output, errors);
-        turns -= 1;
+    for _ in 0..u64::MAX {
+        match going.advance(&mut buffer, input, output)? {
+            Some(next) => going = next,
+            None => break,
+        }
+    }
+    Ok(())
+}
+
+// Lists the image that the input gives, as a stream: a row is printed as soon as its record has passed,
+// where neither stream keeps a buffer (std's own keep none). What fails is said where errors go; where
+// that fails too, there is nobody to tell.
+pub fn list<R: Read, W: Write, E: Write>(input: &mut R, output: &mut W, errors: &mut E) {
+    if let Err(failed) = list_rows(input, output) {
+        let _ = writeln!(errors, "ceoslist: {failed}");
     }
 }

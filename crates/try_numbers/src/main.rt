@@ -12,11 +12,19 @@
 //   4 PLACE LENGTH      the four bytes from PLACE on, of the first LENGTH bytes
 #![tactic(auto)]
 
-use decimal::{Form, Written};
+use decimal::{Form, Number, Written};
 use fields::Field;
+use std::fmt;
+use try_commands::{Numbers, Refused, part};
 
-fn form_of(n: u64) -> Form {
-    match n {
+// How many bytes of a record are held.
+// How many bytes of commands are read.
+const READ: u64 = 65536;
+
+const HELD: usize = 4096;
+
+fn form_of(code: u64) -> Form {
+    match code {
         1 => Form::I4,
         2 => Form::I6,
         3 => Form::I8,
@@ -27,86 +35,63 @@ fn form_of(n: u64) -> Form {
     }
 }
 
-fn say_written(w: Written) {
-    match w {
-        Written::Number(m, e) => {
-            try_commands::say(b"VALUE");
-            try_commands::say_signed(m);
-            try_commands::say_signed(e);
+// What a text or a field says, as it is printed; an error has its own words.
+#[derive(Drop)]
+struct Answer<E>(Result<Option<Number>, E>);
+
+impl From<Written> for Answer<&'static str> {
+    fn from(written: Written) -> Self {
+        Answer(written.map_err(|_| "BAD"))
+    }
+}
+
+impl From<Field> for Answer<Refused> {
+    fn from(field: Field) -> Self {
+        Answer(match field {
+            Field::Value(units, exponent) => Ok(Some(Number { units, exponent })),
+            Field::Blank => Ok(None),
+            Field::Refused(refusal) => Err(Refused(refusal)),
+        })
+    }
+}
+
+impl<E: fmt::Display> fmt::Display for Answer<E> {
+    fn fmt<W: fmt::Write>(&self, f: &mut fmt::Formatter<W>) -> fmt::Result {
+        match &self.0 {
+            Ok(Some(Number { units, exponent })) => write!(f, "VALUE {units} {exponent}"),
+            Ok(None) => f.write_str("BLANK"),
+            Err(error) => write!(f, "{error}"),
         }
-        Written::Blank => try_commands::say(b"BLANK"),
-        Written::Bad => try_commands::say(b"BAD"),
     }
-    try_commands::say(b"\n");
 }
 
-fn say_field(f: Field) {
-    match f {
-        Field::Value(m, e) => {
-            try_commands::say(b"VALUE");
-            try_commands::say_signed(m);
-            try_commands::say_signed(e);
+// The commands that ask something of a text, or of the record's first bytes.
+fn ask<P: Print>(rt: &P, op: u8, mut numbers: Numbers<'_>, held: &[u8]) -> std::io::Result<()> {
+    let first = numbers.number();
+    if op == b'd' {
+        let written = decimal::read(numbers.text(), form_of(first));
+        return rt.println(Answer::from(written));
+    }
+    let at = first as usize;
+    let second = numbers.number();
+    let bytes = part(held, 0, second);
+    match op {
+        b'f' => rt.println(Answer::from(fields::listed_field(bytes, first))),
+        b'a' => {
+            let bytes = part(held, 0, numbers.number());
+            rt.println(Answer::from(fields::field_at(bytes, at, form_of(second))))
         }
-        Field::Blank => try_commands::say(b"BLANK"),
-        Field::Refused(r) => try_commands::say_refusal(r),
-    }
-    try_commands::say(b"\n");
-}
-
-fn say_word(n: u64) {
-    try_commands::say(b"NUMBER");
-    try_commands::say_number(n);
-    try_commands::say(b"\n");
-}
-
-// The commands that ask something of the record's first bytes.
-fn ask(line: &[u8], op: u8, held: &[u8]) {
-    let a = try_commands::first(line);
-    let b = try_commands::after(line, a);
-    let c = try_commands::after(line, b);
-    let two = try_commands::within(b.value, held.len());
-    let three = try_commands::within(c.value, held.len());
-    let at = try_commands::within(a.value, usize::MAX);
-    if op == b'f' {
-        say_field(fields::listed_field(&held[..two], a.value));
-    } else if op == b'a' {
-        say_field(fields::field_at(&held[..three], at, form_of(b.value)));
-    } else if op == b'2' {
-        say_word(words::two(&held[..two], at));
-    } else if op == b'4' {
-        say_word(words::four(&held[..two], at));
+        b'2' => println!(rt; "NUMBER {}", words::two(bytes, at)),
+        b'4' => println!(rt; "NUMBER {}", words::four(bytes, at)),
+        _ => Ok(()),
     }
 }
 
-fn command(line: &[u8], held: &mut [u8]) {
-    if line.len() == 0 {
-        return;
-    }
-    let op = line[0];
-    let a = try_commands::first(line);
-    if op == b'#' {
-        try_commands::say(line);
-        try_commands::say(b"\n");
-    } else if op == b'd' {
-        say_written(decimal::read(try_commands::text(line, a), form_of(a.value)));
-    } else {
-        try_commands::change(line, op, a, held);
-        ask(line, op, held);
-    }
-}
-
-fn run(input: &[u8], held: &mut [u8]) {
-    let mut at = 0;
-    while at < input.len() {
-        let end = try_commands::line_end(input, at);
-        command(&input[at..end], held);
-        at = end + 1;
-    }
-}
-
-fn main() {
-    let mut input = io::large_buffer();
-    let n = io::read_full(0, &mut input);
-    let mut held = io::buffer();
-    run(&input[..n], &mut held);
+fn main(rt: HostRuntime) -> std::io::Result<()> {
+    try_commands::run(
+        &rt,
+        READ,
+        HELD,
+        |op, numbers, held| ask(&rt, op, numbers, held),
+    )
 }

@@ -14,201 +14,115 @@
 //   n INDEX VALUE                one of them is set
 #![tactic(auto)]
 
-use try_commands::Taken;
+use std::fmt;
+use try_commands::{Numbers, Refused, part};
 use turns::Stop;
-use walk::{Beginning, State, Walked};
+use walk::{State, Walked};
 
-fn say_walked(w: Walked) {
-    let stop = w.stop;
-    match stop {
-        Stop::Wait(n) => {
-            try_commands::say(b"WAIT");
-            try_commands::say_number(n);
+// How many bytes of commands are read.
+const READ: u64 = 262144;
+
+// How many bytes are held.
+const HELD: usize = 65536;
+
+// Why a walk stopped, as it is printed.
+#[derive(Drop)]
+struct Stopped(Stop);
+
+impl fmt::Display for Stopped {
+    fn fmt<W: fmt::Write>(&self, f: &mut fmt::Formatter<W>) -> fmt::Result {
+        match self.0 {
+            Stop::Wait(bytes) => write!(f, "WAIT {bytes}"),
+            Stop::Pause => f.write_str("PAUSE"),
+            Stop::Complete => f.write_str("COMPLETE"),
+            Stop::Refused(refusal) => write!(f, "{}", Refused(refusal)),
         }
-        Stop::Pause => try_commands::say(b"PAUSE"),
-        Stop::Complete => try_commands::say(b"COMPLETE"),
-        Stop::Refused(r) => try_commands::say_refusal(r),
     }
-    try_commands::say(b" COUNT");
-    try_commands::say_number(w.count);
-    try_commands::say(b" PASSED");
-    let st = w.state;
-    try_commands::say_number(st.passed);
-    try_commands::say(b"\n");
 }
 
-fn begun(st: State, kind: u64) -> State {
-    let b = st.begin(kind);
-    let answer = b.answer;
-    match answer {
-        Beginning::Fresh => try_commands::say(b"BEGUN"),
-        Beginning::Unknown(r) => try_commands::say_refusal(r),
-    }
-    try_commands::say(b"\n");
-    b.state
+// A state's numbers, as C holds them.
+fn numbers_of(state: State) -> [u64; c_state::NUMBERS] {
+    let mut numbers = [0; c_state::NUMBERS];
+    c_state::put(state, &mut numbers);
+    numbers
 }
 
-fn walked(line: &[u8], op: u8, held: &[u8], st: State) -> State {
-    let from = try_commands::first(line);
-    let long = try_commands::after(line, from);
-    let closed = try_commands::after(line, long);
-    let budget = try_commands::after(line, closed);
-    let bytes = try_commands::part(held, from.value, long.value);
-    let w = if op == b't' {
-        st.step(bytes, closed.value != 0)
+fn print_state<P: Print>(rt: &P, state: State) -> std::io::Result<()> {
+    print!(rt; "STATE")?;
+    for number in numbers_of(state) {
+        print!(rt; " {number}")?;
+    }
+    println!(rt;)
+}
+
+// The state with one of its numbers set; one behind the last is the last.
+fn with_number(state: State, index: u64, number: u64) -> State {
+    let mut numbers = numbers_of(state);
+    numbers[(index as usize).min(c_state::NUMBERS - 1)] = number;
+    c_state::get(&numbers)
+}
+
+// A begun walk; where there is no such kind, the state of no walk.
+fn begin<P: Print>(rt: &P, state: &mut State, kind: u64) -> std::io::Result<()> {
+    match state.begin(kind) {
+        Ok(begun) => {
+            *state = begun;
+            println!(rt; "BEGUN")
+        }
+        Err(refusal) => {
+            *state = State::none();
+            rt.println(Refused(refusal))
+        }
+    }
+}
+
+fn print_walked<P: Print>(rt: &P, walked: Walked) -> std::io::Result<()> {
+    let Walked { state, count, stop } = walked;
+    println!(rt; "{} COUNT {count} PASSED {}", Stopped(stop), state.passed)
+}
+
+// A walk, or one step where no budget is named.
+fn walk<P: Print>(
+    rt: &P,
+    state: &mut State,
+    op: u8,
+    mut numbers: Numbers<'_>,
+    held: &[u8],
+) -> std::io::Result<()> {
+    let from = numbers.number();
+    let bytes = part(held, from, numbers.number());
+    let closed = numbers.number() != 0;
+    let walked = if op == b't' {
+        state.step(bytes, closed)
     } else {
-        st.walk(bytes, closed.value != 0, budget.value)
+        state.walk(bytes, closed, numbers.number())
     };
-    say_walked(w);
-    w.state
-}
-
-// Number i of the state's pairs: row i / 2, its count or its length.
-fn pair_number(p: plan::Plan, i: u64) -> u64 {
-    let at = try_commands::within(i / 2, 16);
-    if i % 2 == 0 {
-        p.counts[at]
-    } else {
-        p.lengths[at]
-    }
-}
-
-fn number_of(st: State, i: u64) -> u64 {
-    let p = st.plan;
-    if i == 0 {
-        return st.kind;
-    }
-    if i == 1 {
-        return st.passed;
-    }
-    if i == 2 {
-        return p.pointers;
-    }
-    if i < 37 {
-        return pair_number(p, i - 3);
-    }
-    match i {
-        37 => p.n,
-        38 => p.l,
-        39 => p.w,
-        40 => p.d,
-        41 => p.s,
-        _ => p.sort,
-    }
-}
-
-fn say_state(st: State) {
-    try_commands::say(b"STATE");
-    let mut i = 0;
-    while i < 43 {
-        try_commands::say_number(number_of(st, i));
-        i += 1;
-    }
-    try_commands::say(b"\n");
-}
-
-fn with_pair(p: plan::Plan, i: u64, v: u64) -> plan::Plan {
-    let at = try_commands::within(i / 2, 16);
-    let mut q = p;
-    if i % 2 == 0 {
-        q.counts[at] = v;
-    } else {
-        q.lengths[at] = v;
-    }
-    q
-}
-
-fn with_plan(p: plan::Plan, i: u64, v: u64) -> plan::Plan {
-    let mut q = p;
-    if i == 2 {
-        q.pointers = v;
-    } else if i < 37 {
-        q = with_pair(p, if i < 3 { 0 } else { i - 3 }, v);
-    } else if i == 37 {
-        q.n = v;
-    } else if i == 38 {
-        q.l = v;
-    } else if i == 39 {
-        q.w = v;
-    } else if i == 40 {
-        q.d = v;
-    } else if i == 41 {
-        q.s = v;
-    } else {
-        q.sort = v;
-    }
-    q
-}
-
-fn with_number(st: State, i: u64, v: u64) -> State {
-    let mut t = st;
-    if i == 0 {
-        t.kind = v;
-    } else if i == 1 {
-        t.passed = v;
-    } else {
-        let p = st.plan;
-        let q = with_plan(p, i, v);
-        t.plan = q;
-    }
-    t
+    *state = walked.state;
+    print_walked(rt, walked)
 }
 
 // The commands that ask the state, or set it.
-fn ask(line: &[u8], op: u8, a: Taken, st: State) -> State {
-    if op == b'g' {
-        return begun(st, a.value);
+fn ask<P: Print>(
+    rt: &P,
+    state: &mut State,
+    op: u8,
+    mut numbers: Numbers<'_>,
+    held: &[u8],
+) -> std::io::Result<()> {
+    match op {
+        b'g' => begin(rt, state, numbers.number())?,
+        b'w' | b't' => walk(rt, state, op, numbers, held)?,
+        b's' => println!(rt; "START {}", state.start())?,
+        b'v' => print_state(rt, *state)?,
+        b'n' => *state = with_number(*state, numbers.number(), numbers.number()),
+        _ => (),
     }
-    if op == b's' {
-        try_commands::say(b"START");
-        try_commands::say_number(st.start());
-        try_commands::say(b"\n");
-        return st;
-    }
-    if op == b'v' {
-        say_state(st);
-        return st;
-    }
-    if op == b'n' {
-        return with_number(st, a.value, try_commands::after(line, a).value);
-    }
-    st
+    Ok(())
 }
 
-fn command(line: &[u8], held: &mut [u8], st: State) -> State {
-    if line.len() == 0 {
-        return st;
-    }
-    let op = line[0];
-    let a = try_commands::first(line);
-    if op == b'#' {
-        try_commands::say(line);
-        try_commands::say(b"\n");
-        return st;
-    }
-    if op == b'w' {
-        return walked(line, op, held, st);
-    }
-    if op == b't' {
-        return walked(line, op, held, st);
-    }
-    try_commands::change(line, op, a, held);
-    ask(line, op, a, st)
-}
-
-fn run(input: &[u8], held: &mut [u8]) {
-    let mut at = 0;
-    let mut st = State::none();
-    while at < input.len() {
-        let end = try_commands::line_end(input, at);
-        st = command(&input[at..end], held, st);
-        at = end + 1;
-    }
-}
-
-fn main() {
-    let mut input = [0u8; 262144];
-    let n = io::read_full(0, &mut input);
-    let mut held = io::large_buffer();
-    run(&input[..n], &mut held);
+fn main(rt: HostRuntime) -> std::io::Result<()> {
+    let mut state = State::none();
+    try_commands::run(&rt, READ, HELD, |op, numbers, held| {
+        ask(&rt, &mut state, op, numbers, held)
+    })
 }

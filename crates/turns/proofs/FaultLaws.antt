@@ -10,7 +10,9 @@ use lib.Dec.{eqb, leb, ltb}
 use lib.ListN.{length}
 use lib.Seq.{slice}
 use borrow.Author.Tests.{leb-true, ltb-true}
+use Rattle.std.specs.Prelude.{Ok, Err, Some, None}
 use Rattle.words.specs.Tests.{pick, both_of}
+use Rattle.words.specs.Answer.{refusal_at}
 use Rattle.words.specs.Words.{place_of}
 use Rattle.words.proofs.Laws.{both_l, both_r}
 use Rattle.words.proofs.Table.{every}
@@ -18,22 +20,18 @@ use Rattle.decimal.specs.Forms.{width_of}
 use Rattle.decimal.specs.Scan.{written}
 use Rattle.decimal.specs.declared.Form.{Form}
 use Rattle.decimal.specs.declared.Form.TheVariants.{I6}
-use Rattle.decimal.specs.declared.Written.{Written}
-use Rattle.decimal.specs.declared.Written.TheVariants.{Number as Number', Blank as Blank', Bad}
+use Rattle.decimal.specs.Written.{Written}
 use Rattle.fields.specs.Field.{field_at, field_bytes, bad_place, from_written, refuse}
 use Rattle.fields.proofs.Laws.{bad_within}
 use Rattle.fields.specs.Listed.{table}
 use Rattle.fields.specs.declared.Listed.{Listed}
-use Rattle.plan.specs.Tables.{slot_of}
 use Rattle.plan.specs.Plan.{volume, leader, image}
 use Rattle.plan.specs.declared.Codes.{Codes}
 use Rattle.plan.specs.declared.Plan.{Plan}
-use Rattle.verdicts.specs.Tests.{Test, first_fault, each, unread_number, unread_place, count_tests, number_tests}
+use Rattle.verdicts.specs.Tests.{Verdict, Test, first_fault, named_by, each, unread_number, unread_place, count_tests, number_tests}
 use Rattle.verdicts.specs.Numbers.{Number, at, last_of, row_tests, numbers_tests}
 use Rattle.volume.specs.Volume.{volume_numbers, pointer_numbers, volume_tests, pointer_tests, volume_record}
-use Rattle.verdicts.specs.declared.Verdict.{Verdict}
-use Rattle.verdicts.specs.declared.Verdict.TheVariants.{Fine, Fault}
-use Rattle.leader.specs.Leader.{pairs, pair_tests, count_at, fields_tests, listed_tests, leader_tests, leader_record}
+use Rattle.leader.specs.Leader.{pairs, slot_in, pair_tests, count_at, fields_tests, listed_tests, leader_tests, leader_record}
 use Rattle.leader.specs.declared.Pair.{Pair}
 use Rattle.image.specs.Image.{sort_in, image_numbers, agree_tests, agreements, image_tests, line_tests, image_record}
 use Rattle.bodies.specs.Bodies.{trailer_tests, first_tests, body_tests, body_of}
@@ -48,12 +46,12 @@ pub record Can (need : ℕ) (r : List ℕ) (number place : ℕ) : Type 0 where
   pub short : number ≡ 2 → length r < need
 
 abbrev pub FaultCan : ℕ → List ℕ → Verdict → Type 0
-FaultCan need r Fine = Unit {0}
-FaultCan need r (Fault n at) = Can need r n at
+FaultCan need r (Ok u) = Unit {0}
+FaultCan need r (Err x) = Can need r x.number x.place
 
 pub near_of : (need : ℕ) (r : List ℕ) (v : Verdict) → FaultCan need r v → Near v
-near_of need r Fine h = tt
-near_of need r (Fault n at) h = h.near
+near_of need r (Ok u) h = tt
+near_of need r (Err x) h = h.near
 
 -- every test's fault can be so
 AllCan : ℕ → List ℕ → List Test → Type 0
@@ -74,7 +72,7 @@ module _ (need : ℕ) (r : List ℕ) where
   can_fault [] a = tt
   can_fault (t ∷ ts) a = go t.holds (can_fault ts a.1)
     where
-      go : (b : Bool) → FaultCan need r (first_fault ts) → FaultCan need r (pick b (first_fault ts) (Fault t.number t.place))
+      go : (b : Bool) → FaultCan need r (first_fault ts) → FaultCan need r (pick b (first_fault ts) (Err (refusal_at t.number t.place)))
       go true n = n
       go false n = a.0
 
@@ -112,9 +110,9 @@ module _ (need : ℕ) (r : List ℕ) where
             → Can need r (unread_number (pick b (refuse 2 0) (from_written (bad_place r p k) w)))
             (unread_place last (pick b (refuse 2 0) (from_written (bad_place r p k) w)))
         go true e w = record { near = omega arith; low = omega arith; short = λ q. let l = ltb-true (length r) (p + width_of k) e in omega arith }
-        go false e (Number' m x) = other 6 last (omega arith) (omega arith) l
-        go false e Blank' = other 6 last (omega arith) (omega arith) l
-        go false e Bad = other 6 (bad_place r p k) (omega arith) (omega arith) (bad_near p k h)
+        go false e (Ok (Some x)) = other 6 last (omega arith) (omega arith) l
+        go false e (Ok None) = other 6 last (omega arith) (omega arith) l
+        go false e (Err x) = other 6 (bad_place r p k) (omega arith) (omega arith) (bad_near p k h)
 
     at_can : (byte : ℕ) (k : Form) → ends byte k ≡ true → Can need r (unread_number (at r byte k)) (unread_place (place_of byte) (at r byte k))
     at_can byte k e = field_can (place_of byte) (place_of byte) k (leb-true (place_of byte + width_of k) need e) (within byte k e)
@@ -141,7 +139,7 @@ module _ (need : ℕ) (r : List ℕ) where
     pair_can x e =
         let a = both_l (ends x.byte I6) (ends (x.byte + 6) x.form) e in
         let b = both_r (ends x.byte I6) (ends (x.byte + 6) x.form) e in
-        let s = slot_of x.row in
+        let s = slot_in x.row in
         let ts = number_tests (at r (x.byte + 6) x.form) (place_of (x.byte + 6)) (last_of (x.byte + 6) x.form) s.shortest s.longest in
         can_append (count_tests (at r x.byte I6) (place_of x.byte) s.least s.most) (pick (eqb (count_at r x) 0) [] ts)
         (at_can x.byte I6 a, (range_can x.byte I6 a, tt))
@@ -223,13 +221,17 @@ pub body_near : (kind run : ℕ) (p : Plan) (k : ℕ) (r : List ℕ) → Near (b
 body_near kind run p k r = near_of (need_of kind run) r (body_of kind run p k r) (body_can kind run p k r)
 
 -- what is found in a body, with the plan behind it
-pub found_near : (kind run : ℕ) (p : Plan) (k : ℕ) (r : List ℕ) → Near (found_of kind run p k r).verdict
+named_near : {A : Type 0} (v : Verdict) (a : A) → Near v → Near (named_by v a)
+named_near (Ok u) a h = h
+named_near (Err x) a h = h
+
+pub found_near : (kind run : ℕ) (p : Plan) (k : ℕ) (r : List ℕ) → Near (found_of kind run p k r)
 unfolding found_of first_of first_tests body_of body_tests volume_record leader_record image_record
 found_near kind run p k r = go (eqb run 0)
   where
-    go : (b : Bool) → Near (pick b (first_of kind r) (record { verdict = body_of kind run p k r; plan = p })).verdict
-    go true = body_near kind 0 p k r
-    go false = body_near kind run p k r
+    go : (b : Bool) → Near (pick b (first_of kind r) (named_by (body_of kind run p k r) p))
+    go true = named_near (first_fault (first_tests kind r)) _ (body_near kind 0 p k r)
+    go false = named_near (body_of kind run p k r) p (body_near kind run p k r)
 
 pub header_can : (ordinal : ℕ) (c : Codes) (long : ℕ) (b : List ℕ) → FaultCan 0 b (header_of ordinal c long b)
 unfolding header_of header_tests AllCan

@@ -3,13 +3,11 @@
 // moved here: what a turn needs of it is handed in.
 #![tactic(auto)]
 
-ghost use Rattle.std.specs.Prelude.{◌≡◌, ◌≤◌};
+ghost use Rattle.std.specs.Prelude.{◌≡◌, ◌≤◌, OnOk};
 ghost use Rattle.plan.specs.Plan.{run_counts, run_lengths, total_of, Small, Placed, records_most};
 ghost use Rattle.turns.specs.Turn.{Near, refused_at, ended_of, short_of, passed_of, judged_of};
 
-use bodies::Found;
 use plan::{Due, Plan};
-use verdicts::Verdict;
 use words::Refusal;
 
 // Which stop it was: wait with the count of missing bytes, budget used up, all there, refused.
@@ -19,20 +17,6 @@ pub enum Stop {
     Pause,
     Complete,
     Refused(Refusal),
-}
-
-// What a turn says of the next record: it is passed, or the walk stops.
-#[derive(Clone, Copy)]
-pub enum Turn {
-    Pass,
-    Halt(Stop),
-}
-
-// What a turn says, and the plan behind it: a first record that passes names one.
-#[derive(Clone, Copy)]
-pub struct Judged {
-    pub turn: Turn,
-    pub plan: Plan,
 }
 
 // A refusal of the record with that ordinal, which starts there in the file.
@@ -48,6 +32,7 @@ fn refused(ordinal: u64, start: u64, number: u64, at: u64) -> Stop
 }
 
 // All planned records are passed.
+#[tactic(auto, unfolding(crate::specs::Turn::ended_of))]
 fn ended(ordinal: u64, start: u64, left: u64, closed: bool) -> Stop
     requires { start ≤ 20000000000000 }
     ensures { result ≡ ended_of ordinal start left closed }
@@ -62,6 +47,7 @@ fn ended(ordinal: u64, start: u64, left: u64, closed: bool) -> Stop
 }
 
 // Too few bytes have come.
+#[tactic(auto, unfolding(crate::specs::Turn::short_of))]
 fn short(ordinal: u64, start: u64, closed: bool, missing: u64) -> Stop
     requires { start ≤ 20000000000000 }
     ensures { result ≡ short_of ordinal start closed missing }
@@ -72,54 +58,36 @@ fn short(ordinal: u64, start: u64, closed: bool, missing: u64) -> Stop
     Stop::Wait(missing)
 }
 
-// The walk stops, and the plan is as it was.
-fn halted(stop: Stop, p: Plan) -> Judged
-    ensures { result ≡ record { turn = Turn.Halt stop; plan = p } }
+// What was found in the record that is due, its fault as the refusal that stops the walk.
+fn passed<T>(found: Result<T, Refusal>, d: Due) -> Result<T, Stop>
+    requires { Placed d × Near found }
+    ensures { result ≡ passed_of found d }
 {
-    Judged {
-        turn: Turn::Halt(stop),
-        plan: p,
+    match found {
+        Ok(x) => Ok(x),
+        Err(x) => Err(refused(d.ordinal, d.start, x.number, x.place)),
     }
 }
 
-// Step 7: what was found in the body, and the plan behind a record that passes.
-fn passed(found: Found, p: Plan, d: Due) -> Judged
-    requires { Placed d × Near found.verdict }
-    ensures { result ≡ passed_of found p d }
-{
-    let verdict = found.verdict;
-    let plan = found.plan;
-    match verdict {
-        Verdict::Fine => Judged {
-            turn: Turn::Pass,
-            plan,
-        },
-        Verdict::Fault(n, at) => halted(refused(d.ordinal, d.start, n, at), p),
-    }
-}
-
-// Steps 3 to 7 of a turn, for the record that is due behind k others.
-pub fn judge(kind: u64, p: Plan, k: u64, d: Due, b: &[u8], closed: bool) -> Judged
+// Steps 3 to 7 of a turn, for the record that is due behind k others: the record is passed, and that is the
+// plan behind it, which a first record names; or the walk stops, and the plan is as it was.
+pub fn judge(kind: u64, p: Plan, k: u64, d: Due, b: &[u8], closed: bool) -> Result<Plan, Stop>
     requires small { Small (run_counts kind p) (run_lengths kind p) }
     requires k_bound { (k ≤ total_of kind p) × Placed d }
     ensures value { result ≡ judged_of kind p k d b.now closed }
-    ensures k_le_records_most { result.turn ≡ Turn.Pass → k ≤ records_most }
+    ensures k_le_records_most { OnOk result (k ≤ records_most) }
 {
     let len = b.len() as u64;
     if plan::total(kind, p) <= k {
-        return halted(ended(d.ordinal, d.start, len, closed), p);
+        return Err(ended(d.ordinal, d.start, len, closed));
     }
     if len < 12 {
-        return halted(short(d.ordinal, d.start, closed, 12 - len), p);
+        return Err(short(d.ordinal, d.start, closed, 12 - len));
     }
-    let codes = d.codes;
-    let h = headers::header(d.ordinal, codes, d.length, b);
-    if let Verdict::Fault(n, at) = h {
-        return halted(refused(d.ordinal, d.start, n, at), p);
-    }
+    passed(headers::header(d.ordinal, d.codes, d.length, b), d)?;
     if len < d.length {
-        return halted(short(d.ordinal, d.start, closed, d.length - len), p);
+        return Err(short(d.ordinal, d.start, closed, d.length - len));
     }
     let due = d.length as usize;
-    passed(bodies::judge(kind, d.run, p, k, &b[..due]), p, d)
+    passed(bodies::judge(kind, d.run, p, k, &b[..due]), d)
 }

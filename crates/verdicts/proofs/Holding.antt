@@ -8,37 +8,38 @@ use native.Mathlib.Omega.{arith}
 use lib.IntN.{pos, negsuc}
 use lib.ListN.{length, get_or, take}
 use lib.Seq.{slice, length-slice, get_or-drop, get_or-take}
+use Rattle.std.specs.Prelude.{Ok, Err}
 use Rattle.words.specs.Tests.{pick, both_of}
+use Rattle.words.specs.Answer.{refusal_at}
+use Rattle.words.specs.declared.Refusal.{Refusal}
 use Rattle.words.specs.Words.{place_of}
 use Rattle.decimal.specs.declared.Form.TheVariants.{I4}
 use Rattle.words.proofs.Laws.{within_true, both_l, both_r, both_true}
 use Rattle.fields.specs.declared.Field.{Field}
 use Rattle.fields.specs.declared.Field.TheVariants.{Value, Blank, Refused}
-use Rattle.verdicts.specs.Tests.{Test, first_fault, all_hold, each, number_tests, count_tests, number_of}
+use Rattle.verdicts.specs.Tests.{Test, Verdict, first_fault, all_hold, each, number_tests, count_tests, number_of}
 use Rattle.verdicts.specs.Numbers.{Number, number, at, last_of, number_at, row_tests, numbers_tests}
-use Rattle.verdicts.specs.declared.Verdict.{Verdict}
-use Rattle.verdicts.specs.declared.Verdict.TheVariants.{Fine, Fault}
 
 -- each test holds
 abbrev pub Holds : List Test → Type 0
 Holds [] = Unit {0}
 Holds (t ∷ ts) = (t.holds ≡ true) × Holds ts
 
-test_fine : (b : Bool) (v : Verdict) (n at : ℕ) → pick b v (Fault n at) ≡ Fine → (b ≡ true) × (v ≡ Fine)
-test_fine true v n at e = (refl, e)
-test_fine false v n at e = absurd (let z : ◌≡◌ {A = ℕ} 0 1 = cc in omega arith)
+test_fine : (b : Bool) (v : Verdict) (x : Refusal) → pick b v (Err x) ≡ Ok tt → (b ≡ true) × (v ≡ Ok tt)
+test_fine true v x e = (refl, e)
+test_fine false v x e = absurd (let z : ◌≡◌ {A = ℕ} 0 1 = cc in omega arith)
 
-pub fine_holds : (ts : List Test) → first_fault ts ≡ Fine → Holds ts
+pub fine_holds : (ts : List Test) → first_fault ts ≡ Ok tt → Holds ts
 unfolding first_fault
 fine_holds [] e = tt
 fine_holds (t ∷ ts) e =
-    let h = test_fine t.holds (first_fault ts) t.number t.place e in
+    let h = test_fine t.holds (first_fault ts) (refusal_at t.number t.place) e in
     (h.0, fine_holds ts h.1)
 
-pub holds_fine : (ts : List Test) → Holds ts → first_fault ts ≡ Fine
+pub holds_fine : (ts : List Test) → Holds ts → first_fault ts ≡ Ok tt
 unfolding first_fault
 holds_fine [] h = refl
-holds_fine (t ∷ ts) h = ap (λ (b : Bool). pick b (first_fault ts) (Fault t.number t.place)) h.0 ∙ holds_fine ts h.1
+holds_fine (t ∷ ts) h = ap (λ (b : Bool). pick b (first_fault ts) (Err (refusal_at t.number t.place))) h.0 ∙ holds_fine ts h.1
 
 -- the same as one test
 all_holds : (ts : List Test) → all_hold ts ≡ true → Holds ts
@@ -46,7 +47,7 @@ unfolding all_hold
 all_holds [] e = tt
 all_holds (t ∷ ts) e = (both_l t.holds (all_hold ts) e, all_holds ts (both_r t.holds (all_hold ts) e))
 
-pub all_fine : (ts : List Test) → all_hold ts ≡ true → first_fault ts ≡ Fine
+pub all_fine : (ts : List Test) → all_hold ts ≡ true → first_fault ts ≡ Ok tt
 all_fine ts e = holds_fine ts (all_holds ts e)
 
 -- three tests

@@ -29,3 +29,5 @@ module _ (r : List ℕ) (at : ℕ) (t : List ℕ) where
     text_next e =
         let a : at + i + 1 ≡ at + (i + 1) = omega arith in
         rw (drop_more t i h, eq-eqb (byte_at r (at + i)) (get_or t i 0) e, a)
+
+pub ruleset steps = (text_start, text_off, text_next, text_end)

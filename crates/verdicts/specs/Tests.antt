@@ -1,12 +1,16 @@
 -- A body's rules as a list of tests in document 01's order: the first that fails is the refusal. Assumes nothing.
-use Rattle.std.specs.Prelude.{ℕ, ◌+◌, List, [], ◌∷◌, ◌++◌, Bool, true, false, eqb, ℤ, pos, negsuc}
+use Rattle.std.specs.Prelude.{ℕ, ◌+◌, List, [], ◌∷◌, ◌++◌, Bool, true, false, eqb, ℤ, pos, negsuc, Result, Ok, Err}
 use Rattle.words.specs.Tests.{pick, both_of, within_of}
 use Rattle.words.specs.Words.{byte_at, place_of}
-use Rattle.fields.specs.Field.{refuse}
+use Rattle.words.specs.Answer.{refusal_at}
+use Rattle.words.specs.declared.Refusal.{Refusal}
+use Rattle.decimal.specs.declared.Number.{Number}
 use Rattle.fields.specs.declared.Field.{Field}
 use Rattle.fields.specs.declared.Field.TheVariants.{Value, Blank, Refused}
-use Rattle.verdicts.specs.declared.Verdict.{Verdict}
-use Rattle.verdicts.specs.declared.Verdict.TheVariants.{Fine, Fault}
+
+-- what was found in a record: nothing wrong, or the first fault's number and its place in the record
+abbrev pub Verdict : Type 0
+Verdict = Result Unit Refusal
 
 -- a test: whether it holds, and the refusal's number and place in the record where it does not
 pub record Test : Type 0 where
@@ -19,8 +23,8 @@ test b n at = record { holds = b; number = n; place = at }
 
 -- the first test that fails
 unfoldable pub first_fault : List Test → Verdict
-first_fault [] = Fine
-first_fault (t ∷ ts) = pick t.holds (first_fault ts) (Fault t.number t.place)
+first_fault [] = Ok tt
+first_fault (t ∷ ts) = pick t.holds (first_fault ts) (Err (refusal_at t.number t.place))
 
 -- whether every test holds
 unfoldable pub all_hold : List Test → Bool
@@ -29,8 +33,13 @@ all_hold (t ∷ ts) = both_of t.holds (all_hold ts)
 
 -- what is judged next where nothing was found
 abbrev pub and_then : Verdict → Verdict → Verdict
-and_then Fine v = v
-and_then (Fault n at) v = Fault n at
+and_then (Ok _) v = v
+and_then (Err x) v = Err x
+
+-- what a record names where nothing was found in it; else the first fault
+abbrev pub named_by : {A : Type 0} → Verdict → A → Result A Refusal
+named_by (Ok _) a = Ok a
+named_by (Err x) a = Err x
 
 -- the tests of each of several things, one thing after the other
 abbrev pub each : {A : Type 0} → (A → List Test) → List A → List Test
@@ -110,26 +119,31 @@ count_tests f at lo hi = test (readable? f) (unread_number f) (unread_place at f
 abbrev pub readable_test : Field → ℕ → Test
 readable_test f at = test (readable? f) (unread_number f) (unread_place at f)
 
--- ---- the same, one field after the other: what the code hands on of a field, and its fault
+-- ---- the same, one field after the other: what the code hands on of a field
 
 -- the verdict on a field: its refusal is the fault
 abbrev pub fault_of : Field → Verdict
-fault_of (Value v e) = Fine
-fault_of Blank = Fine
-fault_of (Refused x) = Fault x.number x.place
+fault_of (Value v e) = Ok tt
+fault_of Blank = Ok tt
+fault_of (Refused x) = Err x
 
--- a value in a range, or 7
-abbrev pub in_range : ℤ → ℤ → ℕ → ℕ → ℕ → Field
-in_range v e at lo hi = pick (whole_in lo v hi) (Value v e) (refuse 7 at)
+-- the verdict on a number that was read: its refusal is the fault
+abbrev pub verdict_of : {A : Type 0} → Result A Refusal → Verdict
+verdict_of (Ok a) = Ok tt
+verdict_of (Err x) = Err x
 
--- a field, by its first byte and its last, that must be a number in a range: its value; else its own refusal, 6 where it is blank, 7 outside the range
-abbrev pub needed_of : Field → ℕ → ℕ → ℕ → ℕ → Field
+-- a number in a range, or 7
+abbrev pub in_range : ℤ → ℤ → ℕ → ℕ → ℕ → Result Number Refusal
+in_range v e at lo hi = pick (whole_in lo v hi) (Ok (record { units = v; exponent = e })) (Err (refusal_at 7 at))
+
+-- a field, by its first byte and its last, that must be a number in a range: the number; else its own refusal, 6 where it is blank, 7 outside the range
+abbrev pub needed_of : Field → ℕ → ℕ → ℕ → ℕ → Result Number Refusal
 needed_of (Value v e) at last lo hi = in_range v e at lo hi
-needed_of Blank at last lo hi = refuse 6 last
-needed_of (Refused x) at last lo hi = Refused x
+needed_of Blank at last lo hi = Err (refusal_at 6 last)
+needed_of (Refused x) at last lo hi = Err x
 
 -- a count, whose blank field says 0
-abbrev pub counted_of : Field → ℕ → ℕ → ℕ → Field
+abbrev pub counted_of : Field → ℕ → ℕ → ℕ → Result Number Refusal
 counted_of (Value v e) at lo hi = in_range v e at lo hi
 counted_of Blank at lo hi = in_range (pos 0) (pos 0) at lo hi
-counted_of (Refused x) at lo hi = Refused x
+counted_of (Refused x) at lo hi = Err x

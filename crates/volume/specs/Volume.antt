@@ -1,14 +1,12 @@
 -- The tests of a volume directory's records, in document 01's order and with its byte numbers (from 1), and the pointer count that its descriptor
 -- names ("First records and what they promise"; 000). Assumes nothing.
-use Rattle.std.specs.Prelude.{ℕ, List, [], ◌∷◌, eqb}
+use Rattle.std.specs.Prelude.{ℕ, List, [], ◌∷◌, eqb, Result}
 use Rattle.words.specs.Tests.{pick}
+use Rattle.words.specs.declared.Refusal.{Refusal}
 use Rattle.decimal.specs.Text.{bytes}
 use Rattle.decimal.specs.declared.Form.TheVariants.{I4, I8}
-use Rattle.verdicts.specs.Tests.{Test, first_fault, text_test}
+use Rattle.verdicts.specs.Tests.{Test, first_fault, named_by, text_test}
 use Rattle.verdicts.specs.Numbers.{Number, number, number_at, numbers_tests, first_text}
-use Rattle.verdicts.specs.declared.Verdict.{Verdict}
-use Rattle.verdicts.specs.declared.Verdict.TheVariants.{Fine, Fault}
-use Rattle.volume.specs.declared.Described.{Described}
 
 -- the descriptor's pointer count: 3 to 6
 abbrev pub volume_numbers : List Number
@@ -32,13 +30,6 @@ pointer_tests m k r = text_test r 65 (class_text m k) ∷ numbers_tests r pointe
 unfoldable pub volume_record : ℕ → ℕ → ℕ → List ℕ → List Test
 volume_record run m k r = pick (eqb run 0) (volume_tests r) (pick (eqb run 1) (pointer_tests m k r) [])
 
--- what is found in a descriptor: the pointer count that it names, or its first fault and 0
-abbrev pub unnamed : Verdict → Described
-unnamed v = record { verdict = v; pointers = 0 }
-
-abbrev pub named_by : Verdict → List ℕ → Described
-named_by Fine r = record { verdict = Fine; pointers = number_at r 161 I4 }
-named_by (Fault n place) r = unnamed (Fault n place)
-
-unfoldable pub described_of : List ℕ → Described
-described_of r = named_by (first_fault (volume_tests r)) r
+-- what is found in a descriptor: the pointer count that it names, or its first fault
+unfoldable pub described_of : List ℕ → Result ℕ Refusal
+described_of r = named_by (first_fault (volume_tests r)) (number_at r 161 I4)

@@ -4,80 +4,55 @@
 #![tactic(auto)]
 
 ghost use Rattle.std.specs.Prelude.{◌≡◌, [], ◌∷◌};
-ghost use Rattle.verdicts.specs.Tests.{first_fault, text_test, number_of};
+ghost use Rattle.verdicts.specs.Tests.{first_fault, text_test};
 ghost use Rattle.verdicts.specs.Numbers.{number_at};
-ghost use Rattle.volume.specs.Volume.{pointer_tests, class_text, volume_record, described_of, unnamed};
+ghost use Rattle.volume.specs.Volume.{pointer_tests, class_text, volume_record, described_of};
 ghost use Rattle.decimal.specs.declared.Form.TheVariants.{I8};
 
 use decimal::Form;
 use fields::Field;
 use verdicts::Verdict;
+use words::Refusal;
 
-// What was found in a descriptor: nothing wrong, and the pointer count; or its first fault, and 0.
-#[derive(Clone, Copy)]
-pub struct Described {
-    pub verdict: Verdict,
-    pub pointers: u64,
-}
-
-// A descriptor that names nothing, since something is wrong with it.
-fn unnamed(verdict: Verdict) -> Described
-    ensures { result ≡ unnamed verdict }
-{
-    Described {
-        verdict,
-        pointers: 0,
-    }
-}
-
-// The descriptor: its text, then the pointer count, 3 to 6.
-pub fn descriptor(r: &[u8]) -> Described
+// The descriptor: its text, then the pointer count that it names, 3 to 6; or its first fault.
+#[tactic(auto, using(verdicts::proofs::RowLaws::steps), unfolding(crate::specs::Volume::described_of, crate::specs::Volume::volume_tests))]
+pub fn descriptor(r: &[u8]) -> Result<u64, Refusal>
     ensures { result ≡ described_of r.now }
 {
-    let v = verdicts::first_text(r);
-    let Verdict::Fine = v else {
-        return unnamed(v);
-    };
-    let f = verdicts::number(r, 161, Form::I4, 3, 6);
-    let Field::Value(m, _) = f else {
-        return unnamed(verdicts::fault(f));
-    };
-    Described {
-        verdict: Verdict::Fine,
-        pointers: verdicts::whole(m),
-    }
+    verdicts::first_text(r)?;
+    let pointers = verdicts::number(r, 161, Form::I4, 3, 6)?;
+    Ok(verdicts::whole(pointers.units))
 }
 
 // The class of pointer k of m: `SARL` first, `SART` last, `IMOP` between.
+#[tactic(auto, unfolding(crate::specs::Volume::class_text))]
 fn class(m: u64, k: u64, r: &[u8]) -> Verdict
     ensures { result ≡ first_fault (text_test r.now 65 (class_text m k) ∷ []) }
 {
-    if k == 1 {
-        return verdicts::fixed(r, 65, b"SARL");
-    }
-    if k == m {
-        return verdicts::fixed(r, 65, b"SART");
-    }
-    verdicts::fixed(r, 65, b"IMOP")
+    let text = if k == 1 {
+        b"SARL"
+    } else if k == m {
+        b"SART"
+    } else {
+        b"IMOP"
+    };
+    verdicts::fixed(r, 65, text)
 }
 
 // Pointer k of m: its class, its record count, and its first record length, exactly 720.
+#[tactic(auto, using(verdicts::proofs::RowLaws::steps), unfolding(crate::specs::Volume::pointer_tests))]
 fn pointer(m: u64, k: u64, r: &[u8]) -> Verdict
     ensures { result ≡ first_fault (pointer_tests m k r.now) }
 {
-    let v = class(m, k, r);
-    let Verdict::Fine = v else {
-        return v;
-    };
-    let count = verdicts::fault(verdicts::number(r, 101, Form::I8, 1, 99999999));
-    let Verdict::Fine = count else {
-        return count;
-    };
-    verdicts::fault(verdicts::number(r, 109, Form::I8, 720, 720))
+    class(m, k, r)?;
+    verdicts::number(r, 101, Form::I8, 1, 99999999)?;
+    verdicts::number(r, 109, Form::I8, 720, 720)?;
+    Ok(())
 }
 
 // Record k behind the descriptor of a directory with m pointers: a pointer, or the text record, whose
 // bytes are free.
+#[tactic(auto, unfolding(crate::specs::Volume::volume_record, verdicts::specs::Tests::first_fault))]
 pub fn record(run: u64, m: u64, k: u64, r: &[u8]) -> Verdict
     requires { run ≡ 0 → ⊥ }
     ensures { result ≡ first_fault (volume_record run m k r.now) }
@@ -85,7 +60,7 @@ pub fn record(run: u64, m: u64, k: u64, r: &[u8]) -> Verdict
     if run == 1 {
         return pointer(m, k, r);
     }
-    Verdict::Fine
+    Ok(())
 }
 
 // The number that a field of eight columns says at document 01's byte; 0 where it says none. Of a
@@ -93,9 +68,8 @@ pub fn record(run: u64, m: u64, k: u64, r: &[u8]) -> Verdict
 pub fn count_at(directory: &[u8], byte: usize) -> u64
     ensures { result ≡ number_at directory.now byte I8 }
 {
-    let f = verdicts::field(directory, byte, Form::I8);
-    let Field::Value(v, _) = f else {
+    let Field::Value(units, _) = verdicts::field(directory, byte, Form::I8) else {
         return 0;
     };
-    verdicts::whole(v)
+    verdicts::whole(units)
 }

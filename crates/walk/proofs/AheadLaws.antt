@@ -7,6 +7,7 @@ use native.Mathlib.Omega.{arith}
 use native.Mathlib.Nat.{zero-mul, suc-mul}
 use lib.ListN.{length, drop}
 use lib.Seq.{drop-drop}
+use Rattle.std.specs.Prelude.{Ok}
 use borrow.Author.Tests.{le-leb}
 use Rattle.words.proofs.Laws.{both_make}
 use Rattle.plan.specs.Plan.{image, plan_good, total_of, line_codes}
@@ -17,10 +18,9 @@ use Rattle.plan.proofs.CodeLaws.{line_spot, line_due_lem, image_total}
 use Rattle.plan.proofs.GoodLaws.{image_room, image_within, image_bounds}
 use Rattle.image.specs.Image.{image_record}
 use Rattle.bodies.specs.Bodies.{body_of, body_tests}
-use Rattle.verdicts.specs.declared.Verdict.{Verdict}
+use Rattle.verdicts.specs.Tests.{Verdict}
 use Rattle.turns.specs.Turn.{on_fine, judge_of}
 use Rattle.ahead.specs.Lines.{lines_fine}
-use Rattle.turns.specs.declared.Turn.TheVariants.{Pass}
 use Rattle.turns.proofs.TurnLaws.{judge_body}
 use Rattle.ahead.proofs.LineLaws.{LineFine, LinesFine, head_fine, tail_fine, lines_few, lines_room, lines_are, rest, rest_is}
 use Rattle.walk.specs.State.{good_state}
@@ -42,14 +42,14 @@ module _ (p : Plan) (good : plan_good image p ≡ true) where
       ∙ both_make _ _ refl (both_make _ _ good (le-leb _ _ (subst (λ (i : ℕ). k ≤ i) (sym (image_total p)) t)))
 
   -- a line that holds what it must is a turn that passes
-  line_turn : (k : ℕ) (b : List ℕ) (c : Bool) → k < p.n → LineFine p.sort p.w p.l (suc k) b → turn_of (behind p (suc k)) b c ≡ Pass
+  line_turn : (k : ℕ) (b : List ℕ) (c : Bool) → k < p.n → LineFine p.sort p.w p.l (suc k) b → turn_of (behind p (suc k)) b c ≡ Ok tt
   unfolding body_of body_tests image_record
   line_turn k b c h f =
       let a = image_room p good in
       let s : Due = record { ordinal = suc k + 1; run = 1; codes = line_codes p.sort; length = p.l; start = 720 + k * p.l } in
       ap (λ (x : Due). judge_of image p (suc k) x b c) (line_due_lem p k h)
       ∙ judge_body image p (suc k) s b c (subst (λ (i : ℕ). suc k < i) (sym (image_total p)) (omega arith)) (omega (arith, a, f.whole)) f.head f.whole
-      ∙ ap (λ (v : Verdict). on_fine v (suc k + 1) s.start Pass) f.body
+      ∙ ap (λ (v : Verdict). on_fine v (suc k + 1) s.start (Ok tt)) f.body
 
   line_next : (k : ℕ) (b : List ℕ) → next_of (behind p (suc k)) b ≡ behind p (suc (suc k))
   line_next k b =

@@ -5,18 +5,18 @@ use mathlib.Core.List.{List}
 use mathlib.Core.Bool.{Bool, true}
 use mathlib.Core.Logic.{⊎_elim}
 use lib.ListN.{drop}
+use Rattle.std.specs.Prelude.{Ok, Err}
 use Rattle.words.proofs.Laws.{cases}
 use Rattle.walk.specs.State.{good_state, next_due}
 use Rattle.walk.specs.Walk.{turn_of, next_of, walk_of}
 use Rattle.walk.specs.declared.State.{State}
-use Rattle.turns.specs.declared.Turn.{Turn}
-use Rattle.turns.specs.declared.Turn.TheVariants.{Pass, Halt}
+use Rattle.turns.specs.Turn.{Turn}
 use Rattle.walk.specs.declared.Walked.{Walked}
 use Rattle.walk.proofs.LoopLaws.{walk_bad, walk_pause, walk_halt, walk_pass}
 use Rattle.walk.proofs.TurnLaws.{good_next}
 
 module _ (P : State → Type 0) (c : Bool)
-    (next : (st : State) (b : List ℕ) → good_state st ≡ true → turn_of st b c ≡ Pass → P st → P (next_of st b))
+    (next : (st : State) (b : List ℕ) → good_state st ≡ true → turn_of st b c ≡ Ok tt → P st → P (next_of st b))
   where
     pub kept : (n : ℕ) (st : State) (b : List ℕ) → P st → P (walk_of n st b c).state
     kept zero st b p =
@@ -28,8 +28,8 @@ module _ (P : State → Type 0) (c : Bool)
       where
         go : good_state st ≡ true → (P (next_of st b) → P (walk_of n (next_of st b) (drop (next_due st).length b) c).state) → (t : Turn) → turn_of st b c ≡ t
             → P (walk_of (suc n) st b c).state
-        go g ih Pass t = subst (λ (w : Walked). P w.state) (sym (walk_pass st b c n g t)) (ih (next st b g t p))
-        go g ih (Halt x) t = subst (λ (w : Walked). P w.state) (sym (walk_halt st b c n x g t)) p
+        go g ih (Ok u) t = subst (λ (w : Walked). P w.state) (sym (walk_pass st b c n g t)) (ih (next st b g t p))
+        go g ih (Err x) t = subst (λ (w : Walked). P w.state) (sym (walk_halt st b c n x g t)) p
 
 pub good_kept : (n : ℕ) (st : State) (b : List ℕ) (c : Bool) → good_state st ≡ true → good_state (walk_of n st b c).state ≡ true
 good_kept n st b c g = kept (λ s. good_state s ≡ true) c (λ s y h t q. good_next s y c h t) n st b g

@@ -7,9 +7,9 @@ use native.Mathlib.Omega.{arith}
 use native.Mathlib.Nat.{zero-add}
 use lib.ListN.{length, drop, length-drop}
 use lib.Seq.{drop-drop}
+use Rattle.std.specs.Prelude.{Ok, Err}
 use Rattle.turns.specs.declared.Stop.{Stop}
 use Rattle.turns.specs.declared.Stop.TheVariants.{Pause}
-use Rattle.turns.specs.declared.Turn.TheVariants.{Pass, Halt}
 use Rattle.turns.proofs.TurnLaws.{pass_long}
 use Rattle.ahead.proofs.LineLaws.{rest, rest_is}
 use Rattle.walk.specs.State.{good_state, next_due}
@@ -27,11 +27,11 @@ module _ (st : State) (b : List ℕ) (c : Bool) where
   unfolding walk_of
   walk_pause h = simp h
 
-  pub walk_halt : (f : ℕ) (x : Stop) → good_state st ≡ true → turn_of st b c ≡ Halt x → walk_of (suc f) st b c ≡ stopped st x
+  pub walk_halt : (f : ℕ) (x : Stop) → good_state st ≡ true → turn_of st b c ≡ Err x → walk_of (suc f) st b c ≡ stopped st x
   unfolding walk_of
   walk_halt f x h t = simp (h, t)
 
-  pub walk_pass : (f : ℕ) → good_state st ≡ true → turn_of st b c ≡ Pass →
+  pub walk_pass : (f : ℕ) → good_state st ≡ true → turn_of st b c ≡ Ok tt →
       walk_of (suc f) st b c ≡ more 1 (walk_of f (next_of st b) (drop (next_due st).length b) c)
   unfolding walk_of
   walk_pass f h t = simp (h, t)
@@ -50,14 +50,14 @@ less_one : (m n : ℕ) → n < m → m - n ≡ suc (m - (n + 1))
 less_one m n h = omega arith
 
 module _ (m n at : ℕ) (st : State) (b : List ℕ) (c : Bool) where
-  pub turn_halt : (x : Stop) → n < m → good_state st ≡ true → turn_of st (rest b at) c ≡ Halt x
+  pub turn_halt : (x : Stop) → n < m → good_state st ≡ true → turn_of st (rest b at) c ≡ Err x
       → more n (walk_of (m - n) st (drop at b) c) ≡ record { state = st; count = n; stop = x }
   turn_halt x h g t =
       ap (λ (f : ℕ). more n (walk_of f st (drop at b) c)) (less_one m n h)
       ∙ ap (more n) (walk_halt st (drop at b) c (m - (n + 1)) x g (rw (rest_is b at) at t))
       ∙ more_stopped n st x
 
-  pub turn_pass : (long : ℕ) (st' : State) → n < m → good_state st ≡ true → turn_of st (rest b at) c ≡ Pass → long ≡ (next_due st).length → st' ≡ next_of st
+  pub turn_pass : (long : ℕ) (st' : State) → n < m → good_state st ≡ true → turn_of st (rest b at) c ≡ Ok tt → long ≡ (next_due st).length → st' ≡ next_of st
       (rest b at)
       → more n (walk_of (m - n) st (drop at b) c) ≡ more (n + 1) (walk_of (m - (n + 1)) st' (drop (at + long) b) c)
   turn_pass long st' h g t e q =
@@ -66,7 +66,7 @@ module _ (m n at : ℕ) (st : State) (b : List ℕ) (c : Bool) where
       ∙ more_more n 1 (walk_of (m - (n + 1)) (next_of st (drop at b)) (drop (next_due st).length (drop at b)) c)
       ∙ rw (q, rest_is b at, e, ← drop-drop)
 
-  pub pass_room : (long : ℕ) → at ≤ length b → turn_of st (rest b at) c ≡ Pass → long ≡ (next_due st).length → at + long ≤ length b
+  pub pass_room : (long : ℕ) → at ≤ length b → turn_of st (rest b at) c ≡ Ok tt → long ≡ (next_due st).length → at + long ≤ length b
   pass_room long h t e =
       omega (arith, pass_long st.kind st.plan st.passed (next_due st) (drop at b) c (rw (rest_is b at) at t), length-drop at b)
 

@@ -7,6 +7,7 @@ use mathlib.Core.Logic.{⊎_elim}
 use native.Mathlib.Omega.{arith}
 use lib.Dec.{eqb, ltb}
 use lib.ListN.{take}
+use Rattle.std.specs.Prelude.{Result, Ok, Err}
 use borrow.Author.Tests.{eq-eqb, ne_eqb, eqb-true, eqb-false, le-leb}
 use Rattle.words.specs.Tests.{pick, within_of}
 use Rattle.words.proofs.Laws.{both_make, cases, within_true}
@@ -17,12 +18,9 @@ use Rattle.plan.specs.declared.Due.{Due}
 use Rattle.plan.proofs.CodeLaws as code_laws
 use Rattle.bodies.specs.Bodies.{body_of}
 use Rattle.bodies.specs.Named.{plan_of}
-use Rattle.verdicts.specs.declared.Verdict.TheVariants.{Fine}
 use Rattle.bodies.proofs.Named.{first_good}
-use Rattle.turns.specs.Turn.{plan_behind, judged_of}
-use Rattle.turns.specs.declared.Judged.{Judged}
-use Rattle.turns.specs.declared.Turn.{Turn}
-use Rattle.turns.specs.declared.Turn.TheVariants.{Pass}
+use Rattle.turns.specs.Turn.{Turn, plan_behind, judged_of}
+use Rattle.turns.specs.declared.Stop.{Stop}
 use Rattle.turns.proofs.TurnLaws.{pass_parts, pass_going, one_total}
 use Rattle.walk.specs.State.{good_state, next_due}
 use Rattle.walk.specs.Walk.{turn_of, next_with, next_of}
@@ -53,7 +51,7 @@ module _ (st : State) (b : List ℕ) where
   next_good w g t = good_some (next_of st b) (λ e. omega arith) ∙ both_make _ _ w (both_make _ _ g (le-leb _ _ t))
 
   -- a passed record leaves a good state
-  pub good_next : (c : Bool) → good_state st ≡ true → turn_of st b c ≡ Pass → good_state (next_of st b) ≡ true
+  pub good_next : (c : Bool) → good_state st ≡ true → turn_of st b c ≡ Ok tt → good_state (next_of st b) ≡ true
   good_next c g t =
       let w = good_known st g in
       let k = within_true 1 st.kind 4 w in
@@ -63,7 +61,7 @@ module _ (st : State) (b : List ℕ) where
       (λ z.
       let e = eqb-true st.passed 0 z in
       let r0 : (next_due st).run ≡ 0 = ap (λ (x : Spot). x.run) (code_laws.spot_first st.kind st.plan st.passed e) in
-      let f : body_of st.kind 0 st.plan 0 (take (next_due st).length b) ≡ Fine =
+      let f : body_of st.kind 0 st.plan 0 (take (next_due st).length b) ≡ Ok tt =
       ap (λ (i : ℕ). body_of st.kind i st.plan 0 (take (next_due st).length b)) (sym r0)
       ∙ ap (λ (i : ℕ). body_of st.kind (next_due st).run st.plan i (take (next_due st).length b)) (sym e)
       ∙ q.body in
@@ -75,7 +73,7 @@ module _ (st : State) (b : List ℕ) where
       next_good w (ap (plan_good st.kind) l ∙ (good_later st g e).0) (subst (λ (x : Plan). st.passed + 1 ≤ total_of st.kind x) (sym l) (omega arith)))
       (cases (eqb st.passed 0))
 
--- ---- the code's judgement, which has the turn and the plan behind it
+-- ---- the code's judgement, which is the turn with the plan behind it
 
 -- only the first record is of run 0
 run_least : (i : ℕ) (cs ls : List ℕ) (k at : ℕ) → i ≤ (spot_from i cs ls k at).run
@@ -97,18 +95,35 @@ run_first kind p (suc k) =
     (λ z. omega (arith, run_least 1 (run_counts kind p) (run_lengths kind p) k (first_length kind)))
     ∙ sym (ne_eqb (suc k) 0 (λ z. omega arith))
 
-module _ (st : State) (b : List ℕ) (c : Bool) {d : Due} {r : Judged} (e : d ≡ next_due st) (h : r ≡ judged_of st.kind st.plan st.passed d b c) where
-  judged : r ≡ judged_of st.kind st.plan st.passed (next_due st) b c
-  judged = h ∙ ap (λ (x : Due). judged_of st.kind st.plan st.passed x b c) e
+module _ (st : State) (b : List ℕ) (c : Bool) {d : Due} {r : Result Plan Stop} (e : d ≡ next_due st)
+    (h : r ≡ judged_of st.kind st.plan st.passed d b c)
+  where
+    judged : r ≡ plan_behind (turn_of st b c) st.kind st.plan (next_due st).run (take (next_due st).length b)
+    unfolding judged_of
+    judged = h ∙ ap (λ (x : Due). judged_of st.kind st.plan st.passed x b c) e
 
-  pub turn_is : r.turn ≡ turn_of st b c
-  unfolding judged_of
-  turn_is = ap (λ (x : Judged). x.turn) judged
+    -- the walk stops where the turn does
+    pub halts : {x : Stop} → r ≡ Err x → turn_of st b c ≡ Err x
+    halts {x} q = go (turn_of st b c) refl (sym judged ∙ q)
+      where
+        go : (t : Turn) → turn_of st b c ≡ t → plan_behind t st.kind st.plan (next_due st).run (take (next_due st).length b) ≡ Err x
+            → turn_of st b c ≡ Err x
+        go (Ok u) t w = let z : ◌≡◌ {A = ℕ} 0 1 = cc in absurd (omega arith)
+        go (Err y) t w = let z : y ≡ x = cc in t ∙ ap (λ (s : Stop). Err s) z
 
-  pub next_is : r.turn ≡ Pass → next_with st r.plan ≡ next_of st b
-  unfolding judged_of next_of
-  next_is t =
-      ap (next_with st)
-      (ap (λ (x : Judged). x.plan) judged
-      ∙ ap (λ (x : Turn). plan_behind x st.kind st.plan (next_due st).run (take (next_due st).length b)) (sym turn_is ∙ t)
-      ∙ ap (λ (x : Bool). pick x (plan_of st.kind (take (next_due st).length b)) st.plan) (run_first st.kind st.plan st.passed))
+    -- and else it passes, with the plan that is behind the record
+    module _ {q : Plan} (k : r ≡ Ok q) where
+      behind_is : (t : Turn) → turn_of st b c ≡ t → plan_behind t st.kind st.plan (next_due st).run (take (next_due st).length b) ≡ Ok q
+          → (turn_of st b c ≡ Ok tt) × (q ≡ pick (eqb (next_due st).run 0) (plan_of st.kind (take (next_due st).length b)) st.plan)
+      behind_is (Ok u) t w = (t, cc)
+      behind_is (Err y) t w = let z : ◌≡◌ {A = ℕ} 0 1 = cc in absurd (omega arith)
+
+      pub passes : turn_of st b c ≡ Ok tt
+      passes = (behind_is (turn_of st b c) refl (sym judged ∙ k)).0
+
+      pub next_is : next_with st q ≡ next_of st b
+      unfolding next_of
+      next_is =
+          ap (next_with st)
+          ((behind_is (turn_of st b c) refl (sym judged ∙ k)).1
+          ∙ ap (λ (x : Bool). pick x (plan_of st.kind (take (next_due st).length b)) st.plan) (run_first st.kind st.plan st.passed))

@@ -10,7 +10,7 @@ ghost use Rattle.walk.specs.Ahead.{Ahead};
 ghost use Rattle.walk.specs.Walk.{next_with, bad_stop, walk_of, begin_of};
 
 use plan::Plan;
-use turns::{Stop, Turn};
+use turns::Stop;
 use words::Refusal;
 
 // The walk's state: file kind, records passed, and the plan taken from the file's first record.
@@ -29,20 +29,8 @@ pub struct Walked {
     pub stop: Stop,
 }
 
-// What a begun walk answers: fresh, or refusal 1 for a kind that there is not.
-#[derive(Clone, Copy)]
-pub enum Beginning {
-    Fresh,
-    Unknown(Refusal),
-}
-
-#[derive(Clone, Copy)]
-pub struct Begun {
-    pub state: State,
-    pub answer: Beginning,
-}
-
 // A bad state's refusal.
+#[tactic(auto, unfolding(crate::specs::Walk::bad_stop))]
 fn bad_stop() -> Stop
     ensures { result ≡ bad_stop }
 {
@@ -54,47 +42,40 @@ impl State {
     pub fn none() -> State
         ensures { result ≡ fresh 0 }
     {
-        let p = plan::zero();
         State {
             kind: 0,
             passed: 0,
-            plan: p,
+            plan: plan::zero(),
         }
     }
 
-    // A walk over a file of that kind is begun. It does not look at the state it is called on.
-    pub fn begin(self, kind: u64) -> Begun
+    // A walk over a file of that kind is begun: its fresh state, or refusal 1 for a kind that there is
+    // not. It does not look at the state it is called on.
+    #[tactic(auto, unfolding(crate::specs::Walk::begin_of))]
+    pub fn begin(self, kind: u64) -> Result<State, Refusal>
         ensures { result ≡ begin_of kind }
     {
-        let mut st = State::none();
         if words::within(1, kind, 4) {
-            st.kind = kind;
-            return Begun {
-                state: st,
-                answer: Beginning::Fresh,
-            };
+            return Ok(State {
+                kind,
+                ..State::none()
+            });
         }
-        Begun {
-            state: st,
-            answer: Beginning::Unknown(words::bare(1)),
-        }
+        Err(words::bare(1))
     }
 
     // The state rule.
+    #[tactic(auto, unfolding(crate::specs::State::good_state))]
     fn good(self) -> bool
         ensures { result ≡ good_state self }
     {
-        let kind = self.kind;
-        let k = self.passed;
-        let p = self.plan;
-        let known = words::within(1, kind, 4);
-        if k == 0 {
-            return words::both(known, allowed::is_zero(p));
+        if !words::within(1, self.kind, 4) {
+            return false;
         }
-        if allowed::good(kind, p) {
-            return words::both(known, k <= plan::total(kind, p));
+        if self.passed == 0 {
+            return allowed::is_zero(self.plan);
         }
-        false
+        allowed::good(self.kind, self.plan) && self.passed <= plan::total(self.kind, self.plan)
     }
 
     // The state behind the next record, which has passed and left that plan.
@@ -115,29 +96,22 @@ impl State {
         requires { good_state self ≡ true }
         ensures { Ahead self b.now most result }
     {
-        let k = self.passed;
+        if self.kind != plan::IMAGE || self.passed == 0 {
+            return 0;
+        }
         let p = self.plan;
-        if self.kind != plan::IMAGE {
-            return 0;
-        }
-        if k == 0 {
-            return 0;
-        }
-        let left = p.n + 1 - k;
-        if left < most {
-            return ahead::lines_ahead(p.sort, p.w, p.l, k, left, b);
-        }
-        ahead::lines_ahead(p.sort, p.w, p.l, k, most, b)
+        let left = p.n + 1 - self.passed;
+        ahead::lines_ahead(p.sort, p.w, p.l, self.passed, left.min(most), b)
     }
 
     // The place in the file of the next record's first byte: what a caller hands over begins there.
     // 0 for a bad state.
+    #[tactic(auto, unfolding(crate::specs::State::start_of))]
     pub fn start(self) -> u64
         ensures { result ≡ start_of self }
     {
         if self.good() {
-            let p = self.plan;
-            return plan::due_of(self.kind, p, self.passed).start;
+            return plan::due_of(self.kind, self.plan, self.passed).start;
         }
         0
     }
@@ -157,26 +131,25 @@ impl State {
         }
         let mut n: u64 = 0;
         let mut at: usize = 0;
+        // kept: a turn passes a record and the lines behind it at once, so the count moves by more than one.
         while n < budget {
             let rest = &bytes[at..];
-            let p = st.plan;
-            let due = plan::due_of(st.kind, p, st.passed);
-            let judged = turns::judge(st.kind, p, st.passed, due, rest, closed);
-            let turn = judged.turn;
-            if let Turn::Halt(stop) = turn {
-                return Walked {
-                    state: st,
-                    count: n,
-                    stop,
-                };
-            }
+            let due = plan::due_of(st.kind, st.plan, st.passed);
+            let behind = match turns::judge(st.kind, st.plan, st.passed, due, rest, closed) {
+                Ok(plan) => plan,
+                Err(stop) => {
+                    return Walked {
+                        state: st,
+                        count: n,
+                        stop,
+                    };
+                }
+            };
             at += due.length as usize;
-            let behind = judged.plan;
             st = st.next(behind);
             n += 1;
-            let long = st.plan.l;
             let c = st.ahead(&bytes[at..], budget - n);
-            at += (c * long) as usize;
+            at += (c * st.plan.l) as usize;
             st.passed += c;
             n += c;
         }

@@ -69,9 +69,7 @@ pub fn four_there(b: &[u8], at: usize) -> u64
     ensures value { result ≡ four_at b.now at }
     ensures upper_bound { result < 2 ^ 32 }
 {
-    let front = b[at] as u64 * 256 + b[at + 1] as u64;
-    let back = b[at + 2] as u64 * 256 + b[at + 3] as u64;
-    front * 65536 + back
+    u64::from(u32::from_be_bytes([b[at], b[at + 1], b[at + 2], b[at + 3]]))
 }
 
 // The four bytes from a place on, some of which have not come.
@@ -106,10 +104,7 @@ pub fn four(b: &[u8], at: usize) -> u64
 pub fn place(byte: usize) -> usize
     ensures { result ≡ place_of byte }
 {
-    if byte == 0 {
-        return 0;
-    }
-    byte - 1
+    byte.saturating_sub(1)
 }
 
 // Both tests hold.

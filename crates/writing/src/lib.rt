@@ -33,6 +33,5 @@ pub fn four(out: &mut [u8], at: usize, n: u64)
     requires { at + 4 ≤ length out.old }
     ensures { out.new ≡ written out.old at (four_of n) }
 {
-    let low = (n % 4294967296) as u32;
-    text(out, at, &low.to_be_bytes());
+    text(out, at, &n.to_be_bytes()[4..]);
 }

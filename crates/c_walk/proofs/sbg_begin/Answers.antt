@@ -1,37 +1,15 @@
--- Without room nothing is written; with it the state is the begun one's, and the answer its word.
-use Rattle.c_answer.proofs.RoomLaws as laws
-use Rattle.c_walk.proofs.StateLaws.{state_behind}
-use Rattle.c_answer.specs.Reply.{reply_of}
-use Rattle.walk.specs.declared.Begun.{Begun}
-use Rattle.walk.specs.Said.{beginning_as}
+-- With room the state is the begun one's: all zeros where no walk is begun.
 use lib.ListN.{length}
-use mathlib.Core.Path.{ap, ◌∙◌}
+use mathlib.Core.Path.{ap₂, ◌∙◌}
+use Rattle.std.specs.Result.{result_unwrap_or}
+use Rattle.walk.specs.Walk.{begin_of}
+use Rattle.c_answer.proofs.RoomLaws.{room_yes}
+use Rattle.c_walk.proofs.StateLaws.{state_behind, begun_or_none}
 use Rattle.c_walk.proofs.sbg_begin.Goals as goal
 
-pub returns-then-state-lt-STATE : goal.returns-then-state-lt-STATE
-returns-then-state-lt-STATE c =
-    let f = laws.room_first 43 5 (length c.args.state.now) (length c.args.answer.now)
-    c.if-state-lt-STATE.true in
-    record { value = laws.says_no _ f; state_after = laws.stays _ _ _ f; answer_after = laws.stays _ _ _ f }
-
-pub returns-then-answer-lt-ANSWER : goal.returns-then-answer-lt-ANSWER
-returns-then-answer-lt-ANSWER c =
-    let f = laws.room_second 43 5 (length c.args.state.now)
-    (length c.args.answer.now) c.if-state-lt-STATE.false c.if-answer-lt-ANSWER.true in
-    record { value = laws.says_no _ f; state_after = laws.stays _ _ _ f; answer_after = laws.stays _ _ _ f }
-
-pub returns : goal.returns
-returns c =
+pub returns-clause-state_after : goal.returns-clause-state_after
+returns-clause-state_after c =
     let args = c.args in
-    let t = laws.room_yes 43 5 (length args.state.now) (length args.answer.now)
-    c.if-state-lt-STATE.false
-    c.if-answer-lt-ANSWER.false in
-    record {
-      value = laws.says_yes _ t;
-      state_after = state_behind _ _ _ args.state.now _ t
-          (ap (λ (x : Begun). x.state) c.begin-begun.ensures)
-          c.put.ensures;
-      answer_after = laws.answer_behind _ _ _ args.answer.now _ t (c.beginning_reply.ensures
-          ∙ ap (λ (x : Begun). reply_of (beginning_as x.answer) 0)
-          c.begin-begun.ensures) c.say.ensures;
-    }
+    let t = room_yes 43 5 (length args.state.now) (length args.answer.now) c.if-state-lt-STATE.false c.if-answer-lt-ANSWER.false in
+    let st = c.unwrap_or.ensures ∙ ap₂ result_unwrap_or c.begin-begun.ensures c.none-2.ensures ∙ begun_or_none (begin_of args.kind) in
+    state_behind _ _ _ args.state.now _ t st c.put.ensures

@@ -1,5 +1,5 @@
 -- What is left to write behind the leader records that are written gives the whole.
-use Prim.Native.Nat.{◌+◌, ◌-◌, ◌*◌, ◌≤◌}
+use Prim.Native.Nat.{◌+◌, ◌-◌, ◌*◌}
 use mathlib.Core.Path.{◌≡◌}
 use lib.ListN.{length}
 use Rattle.writing.specs.Writing.{written}
@@ -7,8 +7,5 @@ use Rattle.card_build.specs.Build.{leaders_bytes}
 use Rattle.card_build.proofs.put_leaders.Given as goal
 
 abbrev pub invariant-loop-k : goal.invariant-loop-k
-invariant-loop-k l = (l.k ≤ l.records) × (l.to ≡ l.from + 10 * l.k) × (length l.out ≡ length l.initial.out) ×
-    (written l.initial.out l.from (leaders_bytes l.records 0 l.q) ≡ written l.out l.to (leaders_bytes (l.records - l.k) l.k l.q))
-
-abbrev pub decreases-loop-k : goal.decreases-loop-k
-decreases-loop-k l = l.records - l.k
+invariant-loop-k l = (length l.out ≡ length l.initial.out)
+    × (written l.initial.out l.from (leaders_bytes l.records 0 l.q) ≡ written l.out (l.from + 10 * l.k) (leaders_bytes (l.records - l.k) l.k l.q))

@@ -1,60 +1,42 @@
 -- What is left to judge behind the lines that pass is the whole judging of the lines.
-use Prim.Native.Nat.{ℕ}
-use mathlib.Core.Path.{sym, ap, ◌∙◌}
+use Prim.Native.Nat.{ℕ, ◌+◌, ◌-◌, ◌*◌}
+use mathlib.Core.Path.{◌≡◌, sym, ap, ◌∙◌}
 use mathlib.Core.Bool.{Bool}
-use native.Mathlib.Nat.{sub-zero}
 use native.Mathlib.Omega.{arith}
 use lib.ListN.{drop}
-use Rattle.cards.specs.Check.{body_of, fault_of, lines_of}
+use Rattle.std.specs.Prelude.{Ok}
+use Rattle.std.proofs.lemmas.Result.{err_from_is_err_and}
+use Rattle.cards.specs.Check.{body_of, fault_of, judged, lines_of}
 use Rattle.cards.proofs.LoopLaws as laws
 use Rattle.cards.proofs.lines.Goals as goal
 
-pub loop-k-init : goal.loop-k-init
-loop-k-init c =
-    let args = c.args in
-    let pre = c.requires in
-    (omega (arith, pre), omega arith, ap (λ (f : ℕ). lines_of f 0 args.w 17 (drop 17 args.card.now)) (sym (sub-zero args.n)))
-
-pub returns-then-wrong-ne0 : goal.returns-then-wrong-ne0
-returns-then-wrong-ne0 c =
-    let args = c.args in
-    let loop = c.loop-k in
-    let loop-test = c.loop-k-test in
-    let line_holds_lem = c.line_holds in
-    let fault = c.fault-wrong in
-    let if1 = c.if-wrong-ne0 in
-    let card = args.card.now in
-    let e = fault.ensures ∙ ap (λ (t : Bool). fault_of 2 t (laws.rest card loop.at)) line_holds_lem.ensures in
-    c.refused.ensures ∙ laws.lines_wrong args.n loop.k args.w loop.at card _ loop-test.true e if1.true ∙ sym loop.invariant.2
-
-pub overflow_add-at : goal.overflow_add-at
-unfolding body_of
-overflow_add-at c =
-    let args = c.args in
-    let loop = c.loop-k in
-    let line_holds_lem = c.line_holds in
-    let fault = c.fault-wrong in
-    let card = args.card.now in
-    omega (arith, laws.pass_room 2 loop.at line_holds_lem.result card loop.invariant.0 (sym fault.ensures ∙ c.if-wrong-ne0.false))
+pub returns-in_err-fault : goal.returns-in_err-fault
+returns-in_err-fault c =
+    let n = c.args.n in
+    let k = c.loop-k.k in
+    let card = c.args.card.now in
+    let p = err_from_is_err_and c.from_residual.result c.from_residual.ensures.1 in
+    let e = ap (λ (t : Bool). judged {A = Unit {0}} (fault_of 2 t (laws.rest card (17 + 13 * k))) (17 + 13 * k) (Ok tt)) (sym c.line_holds.ensures)
+    ∙ sym c.fault.ensures ∙ c.in_err-fault.was in
+    p.1 ∙ rw (p.2) (laws.lines_wrong n k c.args.w (17 + 13 * k) card _ c.loop-k-test.true e) ∙ sym c.loop-k.invariant.1
 
 pub loop-k-preserved : goal.loop-k-preserved
 unfolding body_of
 loop-k-preserved c =
-    let args = c.args in
-    let loop = c.loop-k in
-    let loop-test = c.loop-k-test in
-    let line_holds_lem = c.line_holds in
-    let fault = c.fault-wrong in
-    let card = args.card.now in
-    let z = sym fault.ensures ∙ c.if-wrong-ne0.false in
-    let e = ap (λ (t : Bool). fault_of 2 t (laws.rest card loop.at)) (sym line_holds_lem.ensures) ∙ z in (
-      laws.pass_room 2 loop.at line_holds_lem.result card loop.invariant.0 z,
-      omega arith,
-      loop.invariant.2 ∙ laws.lines_next args.n loop.k args.w loop.at card loop-test.true e,
+    let n = c.args.n in
+    let k = c.loop-k.k in
+    let w = c.args.w in
+    let card = c.args.card.now in
+    let z : fault_of 2 c.line_holds.result (laws.rest card (17 + 13 * k)) ≡ Ok tt =
+    laws.judged_ok _ (17 + 13 * k) (sym c.fault.ensures ∙ c.in_ok-fault.was) in
+    let e = ap (λ (t : Bool). fault_of 2 t (laws.rest card (17 + 13 * k))) (sym c.line_holds.ensures) ∙ z in
+    let next : 17 + 13 * k + 13 ≡ 17 + 13 * (k + 1) = omega arith in (
+      omega (arith, laws.pass_room 2 (17 + 13 * k) c.line_holds.result card c.loop-k.invariant.0 z),
+      c.loop-k.invariant.1 ∙ laws.lines_next n k w (17 + 13 * k) card c.loop-k-test.true e
+          ∙ ap (λ (i : ℕ). lines_of (n - (k + 1)) (k + 1) w i (drop i card)) next,
     )
 
 pub returns : goal.returns
 returns c =
-    let args = c.args in
-    let loop = c.loop-k in
-    laws.lines_end args.n loop.k args.w loop.at args.card.now c.loop-k-test.false ∙ sym loop.invariant.2
+    let k = c.loop-k.k in
+    laws.lines_end c.args.n k c.args.w (17 + 13 * k) c.args.card.now c.loop-k-test.false ∙ sym c.loop-k.invariant.1

@@ -1,11 +1,20 @@
--- A number that lies behind the bytes reads as 0, which the division tells without a sum that might wrap.
-use mathlib.Core.Path.{sym}
-use native.Mathlib.Omega.{arith}
+-- A place behind the largest number is behind the bytes too, so that reading at that number gives the same 0.
+use Rattle.std.proofs.Common.{◌≡◌, ℕ, List, ◌+◌, ◌*◌, ◌-◌, ◌^◌, ◌≤◌, min, length, sym, ap, ◌∙◌, arith, rules, inl, inr}
+use Rattle.std.proofs.lemmas.Bool.{cases_lt}
+use Rattle.words.specs.Words.{four_at}
 use Rattle.words.proofs.Laws.{four_none}
 use Rattle.complex_rows.proofs.four_in.Goals as goal
 
-pub returns-then-start-len : goal.returns-then-start-len
-returns-then-start-len c = sym (four_none c.args.bytes.now _ (omega arith))
+far : (bs : List ℕ) (at near top : ℕ) → length bs ≤ top → near ≡ min at top → four_at bs near ≡ four_at bs at
+far bs at near top h e =
+    elim (cases_lt at top) [
+      | inl l ↦ ap (λ (i : ℕ). four_at bs i) (let same : near ≡ at = search rules in same)
+      | inr l ↦ four_none bs near (search rules) ∙ sym (four_none bs at (omega arith))
+    ]
 
-pub returns-then-j-len : goal.returns-then-j-len
-returns-then-j-len c = sym (four_none c.args.bytes.now _ (omega arith))
+pub returns : goal.returns
+returns c =
+    let args = c.args in
+    let short : length args.bytes.now ≤ 2 ^ 64 - 1 = search rules in
+    let near : c.saturating_add-at.result ≡ min (args.start + 4 * args.j) (2 ^ 64 - 1) = search rules in
+    c.four.ensures.value ∙ far args.bytes.now (args.start + 4 * args.j) _ (2 ^ 64 - 1) short near

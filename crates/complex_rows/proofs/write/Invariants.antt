@@ -1,13 +1,7 @@
--- One number more each turn, each of four bytes that are there: the row so far is the numbers written, then the old row behind them.
-use Prim.Native.Nat.{◌-◌, ◌≤◌}
-use mathlib.Core.Path.{◌≡◌}
-use mathlib.Core.List.{◌++◌}
-use lib.ListN.{length, drop}
-use Rattle.complex_rows.specs.Parts.{fours}
+-- Each number below the loop's index is that one of four bytes.
+use Rattle.std.proofs.Common.{ℕ, ◌≡◌, ◌+◌, ◌*◌, ◌<◌, get_or}
+use Rattle.words.specs.Words.{four_at}
 use Rattle.complex_rows.proofs.write.Given as goal
 
 abbrev pub invariant-loop-j : goal.invariant-loop-j
-invariant-loop-j l = (l.j ≤ l.count) × (l.row ≡ fours l.bytes l.start l.j ++ drop l.j l.initial.row) × (length l.row ≡ length l.initial.row)
-
-abbrev pub decreases-loop-j : goal.decreases-loop-j
-decreases-loop-j l = l.count - l.j
+invariant-loop-j l = (k : ℕ) → k < l.j → get_or l.x-items k 0 ≡ four_at l.bytes (l.start + 4 * k)

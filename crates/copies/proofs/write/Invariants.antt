@@ -1,13 +1,7 @@
--- One sample more each turn: the row so far is the samples written, then the old row behind them.
-use Prim.Native.Nat.{◌-◌, ◌≤◌}
-use mathlib.Core.Path.{◌≡◌}
-use mathlib.Core.List.{◌++◌}
-use lib.ListN.{length, drop}
-use Rattle.copies.specs.Row.{samples}
+-- Each number below the loop's index is that sample.
+use Rattle.std.proofs.Common.{ℕ, ◌≡◌, ◌*◌, ◌<◌, get_or}
+use Rattle.words.specs.Words.{two_at}
 use Rattle.copies.proofs.write.Given as goal
 
 abbrev pub invariant-loop-j : goal.invariant-loop-j
-invariant-loop-j l = (l.j ≤ l.count) × (l.row ≡ samples l.j l.px ++ drop l.j l.initial.row) × (length l.row ≡ length l.initial.row)
-
-abbrev pub decreases-loop-j : goal.decreases-loop-j
-decreases-loop-j l = l.count - l.j
+invariant-loop-j l = (k : ℕ) → k < l.j → get_or l.x-items k 0 ≡ two_at l.px (2 * k)

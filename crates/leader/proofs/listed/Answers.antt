@@ -1,53 +1,46 @@
 -- The fields from i on have the first fault of the fields from the first: each field passed had none.
-use mathlib.Core.Path.{refl, sym, ap, ◌∙◌}
-use native.Mathlib.Omega.{arith}
+use Prim.Native.Nat.{ℕ}
+use mathlib.Core.Path.{◌≡◌, sym, ap, ◌∙◌}
+use mathlib.Core.List.{List}
+use borrow.Author.Rules.{rules}
+use Rattle.std.specs.Prelude.{Err}
 use Rattle.words.specs.Words.{place_of}
 use Rattle.decimal.specs.declared.Form.TheVariants.{I4}
 use Rattle.fields.specs.Listed.{row, table, listed}
 use Rattle.fields.specs.declared.Listed.{Listed}
-use Rattle.verdicts.specs.Tests.{fault_of}
+use Rattle.verdicts.specs.Tests.{first_fault, fault_of}
 use Rattle.verdicts.specs.Numbers.{at}
-use Rattle.leader.specs.Leader.{listed_tests, fields_tests}
-use Rattle.verdicts.proofs.FieldLaws.{readable_fault}
+use Rattle.leader.specs.Leader.{listed_tests}
+use Rattle.verdicts.proofs.FieldLaws.{at_unnamed, readable_fault}
 use Rattle.verdicts.proofs.TestLaws as laws
 use Rattle.leader.proofs.listed.Goals as goal
 
-pub loop-i-init : goal.loop-i-init
-loop-i-init c = (omega arith, c.requires.0, c.requires.1, refl)
+-- the verdict on listed field i is the first fault of its test
+field_fault : (r : List ℕ) (x : Listed) → first_fault (listed_tests r x) ≡ fault_of (at r x.first x.form)
+field_fault r x = sym (readable_fault (place_of x.first) (at r x.first x.form) (at_unnamed r x.first x.form))
 
-pub returns-in_default : goal.returns-in_default
-unfolding fields_tests listed
-returns-in_default c =
-    let args = c.args in
+pub returns-in_err-fault : goal.returns-in_err-fault
+unfolding listed
+returns-in_err-fault c =
+    let r = c.args.r.now in
     let l = c.loop-i in
-    let r = args.r.now in
-    let v = c.fault-v.ensures
-    ∙ ap fault_of (c.field.ensures
-    ∙ ap (λ (x : Listed). at r x.first x.form) c.listed_row-row.ensures)
-    ∙ readable_fault (place_of (listed l.i).first) (at r (listed l.i).first (listed l.i).form) in
-    laws.row_found (listed_tests r) table (row 0 I4) l.i args.to c.loop-i-test.true l.invariant.2 v
-    c.in_default.is ∙ sym l.invariant.3
+    let e : c.from_residual.result ≡ Err c.in_err-fault.field-0.0 = search rules in
+    let v = field_fault r (listed l.i)
+    ∙ sym (c.fault.ensures ∙ ap fault_of (c.field.ensures ∙ ap (λ (x : Listed). at r x.first x.form) c.listed_row-row.ensures))
+    ∙ c.in_err-fault.was in
+    e ∙ sym (l.invariant ∙ laws.row_found (listed_tests r) table (row 0 I4) l.i c.args.to c.loop-i-test.true c.requires.1 v)
 
 pub loop-i-preserved : goal.loop-i-preserved
-unfolding fields_tests listed
+unfolding listed
 loop-i-preserved c =
-    let args = c.args in
+    let r = c.args.r.now in
     let l = c.loop-i in
-    let r = args.r.now in
-    let v = c.fault-v.ensures
-    ∙ ap fault_of (c.field.ensures
-    ∙ ap (λ (x : Listed). at r x.first x.form) c.listed_row-row.ensures)
-    ∙ readable_fault (place_of (listed l.i).first) (at r (listed l.i).first (listed l.i).form) in (
-      omega arith,
-      omega arith,
-      l.invariant.2,
-      l.invariant.3
-          ∙ laws.row_passed (listed_tests r) table (row 0 I4) l.i args.to c.loop-i-test.true l.invariant.2 v
-          c.in-Fine.is,
-    )
+    let v = field_fault r (listed l.i)
+    ∙ sym (c.fault.ensures ∙ ap fault_of (c.field.ensures ∙ ap (λ (x : Listed). at r x.first x.form) c.listed_row-row.ensures))
+    ∙ c.in_ok-fault.was in
+    l.invariant ∙ laws.row_passed (listed_tests r) table (row 0 I4) l.i c.args.to c.loop-i-test.true c.requires.1 v
 
 pub returns : goal.returns
-unfolding fields_tests
-returns c = let l = c.loop-i in sym (l.invariant.3
-    ∙ laws.rows_end (listed_tests c.args.r.now) table (row 0 I4) l.i c.args.to l.invariant.2
-    c.loop-i-test.false)
+returns c =
+    let l = c.loop-i in
+    sym (l.invariant ∙ laws.rows_end (listed_tests c.args.r.now) table (row 0 I4) l.i c.args.to c.requires.1 c.loop-i-test.false)

@@ -1,73 +1,86 @@
 -- The pairs from i on have the first fault of all, since each pair read was fine; each row of the plan whose pair was read has that pair's numbers.
-use borrow.Author.Rules.{rules}
 use Prim.Native.Nat.{ℕ, ◌+◌}
-use mathlib.Core.Path.{refl, sym, ap, ap₂, ◌∙◌, subst}
+use mathlib.Core.Path.{◌≡◌, sym, ap, ap₂, ◌∙◌, subst}
 use mathlib.Core.List.{List}
 use native.Mathlib.Omega.{arith}
-use lib.ListN.{length}
+use borrow.Author.Rules.{rules}
+use lib.ListN.{length, length-set}
+use Rattle.std.specs.Prelude.{Some, None, Ok, Err}
 use Rattle.decimal.specs.declared.Form.TheVariants.{I4}
 use Rattle.verdicts.specs.Tests.{first_fault}
-use Rattle.verdicts.specs.declared.Verdict.{Verdict}
-use Rattle.verdicts.specs.declared.Verdict.TheVariants.{Fine}
-use Rattle.verdicts.proofs.TestLaws.{row_found, row_passed, rows_end}
-use Rattle.leader.specs.Leader.{pair, pairs, pair_row, pair_tests, count_at, length_at, counts_of, lengths_of, put_at, unnamed, named_by}
+use Rattle.verdicts.proofs.TestLaws.{row_found, row_passed, rows_end, named_fault, named_fine, fault_found, fine_found}
+use Rattle.leader.specs.Leader.{pair, pairs, pair_row, pair_tests, count_at, length_at, counts_of, lengths_of, pair_of}
+use Rattle.leader.specs.declared.Held.{Held}
 use Rattle.leader.specs.declared.Pair.{Pair}
 use Rattle.leader.proofs.FillLaws as laws
 use Rattle.leader.proofs.read_pairs.Goals as goal
+use Rattle.leader.proofs.read_pairs.Goals.{in-Some, in_default}
 
-pub loop-i-init : goal.loop-i-init
-loop-i-init c = (omega arith, search rules, search rules, refl, (λ j l h. absurd (omega arith)), λ j l h. absurd (omega arith))
+-- what was read of pair i
+module _ (r : List ℕ) (i : ℕ) where
+  bad_pair : {y : _} → pair_of r (pair_row i) ≡ Err y → first_fault (pair_tests r (pair_row i)) ≡ Err y
+  unfolding pair_of
+  bad_pair q = fault_found _ (first_fault (pair_tests r (pair_row i))) q
 
-pub read_pair-y-requires : goal.read_pair-y-requires
-read_pair-y-requires c = c.pair_row-x.ensures.byte_bound
+  good_pair : {y : Held} → pair_of r (pair_row i) ≡ Ok y → (first_fault (pair_tests r (pair_row i)) ≡ Ok tt)
+      × (y ≡ record { count = count_at r (pair_row i); length = length_at r (pair_row i) })
+  unfolding pair_of
+  good_pair q = fine_found _ (first_fault (pair_tests r (pair_row i))) q
 
-pub returns-in_default : goal.returns-in_default
+pub returns-in_err-y : goal.returns-in_err-y
 unfolding pair_row
-returns-in_default c =
-    let args = c.args in
+returns-in_err-y c =
+    let r = c.args.r.now in
     let l = c.loop-i in
-    let r = args.r.now in
-    let q = c.in_default.is in
-    let e = c.read_pair-y.ensures.verdict
-    ∙ ap (λ (x : Pair). first_fault (pair_tests r x)) c.pair_row-x.ensures.value in
-    let f = row_found (pair_tests r) pairs (pair 0 I4 0) l.i 26 c.loop-i-test.true (omega arith) e q
-    ∙ sym l.invariant.3 in
-    record { is = c.unnamed.ensures ∙ ap unnamed q ∙ ap (λ (v : Verdict). named_by v r) (sym q ∙ f) }
+    let e : c.from_residual.result ≡ Err c.in_err-y.field-0.0 = search rules in
+    let q = bad_pair r l.i (sym (c.read_pair.ensures ∙ ap (pair_of r) c.pair_row-x.ensures.value) ∙ c.in_err-y.was) in
+    e ∙ named_fault _ (l.invariant.fine ∙ row_found (pair_tests r) pairs (pair 0 I4 (Some 0)) l.i 26 c.loop-i-test.true (omega arith) q)
 
 pub loop-i-preserved : goal.loop-i-preserved
 unfolding pair_row
 loop-i-preserved c =
-    let args = c.args in
+    let r = c.args.r.now in
     let l = c.loop-i in
-    let r = args.r.now in
     let x = c.pair_row-x.ensures.value in
-    let q = c.in-Fine.is in
-    let e = c.read_pair-y.ensures.verdict ∙ ap (λ (x : Pair). first_fault (pair_tests r x)) x in
-    let c' = c.read_pair-y.ensures.count q ∙ ap (count_at r) x in
-    let l' = c.read_pair-y.ensures.length q ∙ ap (length_at r) x in
-    let p = c.put.ensures
-    ∙ ap (λ (x : Pair). put_at l.counts x.row c.read_pair-y.result.count) x in
-    let p2 = c.put-in-loop-i.ensures
-    ∙ ap (λ (x : Pair). put_at l.lengths x.row c.read_pair-y.result.length) x in (
-      omega arith,
-      ap length p ∙ laws.put_length l.counts (pair_row l.i).row c.read_pair-y.result.count ∙ l.invariant.1,
-      ap length p2 ∙ laws.put_length l.lengths (pair_row l.i).row c.read_pair-y.result.length
-          ∙ l.invariant.2,
-      l.invariant.3 ∙ row_passed (pair_tests r) pairs (pair 0 I4 0) l.i 26
-          c.loop-i-test.true (omega arith) e q,
-      subst (λ (a : List ℕ). laws.Filled (λ k. count_at r (pair_row k)) a (l.i + 1)) (sym p)
-          (laws.put_more (λ k. count_at r (pair_row k)) l.counts l.i _ l.invariant.1
-          c.loop-i-test.true c' l.invariant.4),
-      subst (λ (a : List ℕ). laws.Filled (λ k. length_at r (pair_row k)) a (l.i + 1)) (sym p2)
-          (laws.put_more (λ k. length_at r (pair_row k)) l.lengths l.i _ l.invariant.2
-          c.loop-i-test.true l' l.invariant.5),
-    )
+    let y = c.in_ok-y.y in
+    let q = good_pair r l.i (sym (c.read_pair.ensures ∙ ap (pair_of r) x) ∙ c.in_ok-y.was) in
+    let f = l.invariant.fine ∙ row_passed (pair_tests r) pairs (pair 0 I4 (Some 0)) l.i 26 c.loop-i-test.true (omega arith) q.0 in
+    elim c.match-x.branch [
+      | in-Some w ↦
+          let row : (pair_row l.i).row ≡ Some w.in-Some.row = sym (ap (λ (x : Pair). x.row) x) ∙ w.in-Some.is in
+          record {
+            counted = ap length w.counts-is ∙ length-set l.counts w.in-Some.row y.count ∙ l.invariant.counted;
+            measured = ap length w.lengths-is ∙ length-set l.lengths w.in-Some.row y.length ∙ l.invariant.measured;
+            fine = f;
+            counts = subst (λ (a : List ℕ). laws.Filled (λ k. count_at r (pair_row k)) a (l.i + 1)) (sym w.counts-is)
+                (laws.put_more (λ k. count_at r (pair_row k)) l.counts l.i c.loop-i-test.true l.invariant.counts
+                y.count w.in-Some.row l.invariant.counted row (ap (λ (h : Held). h.count) q.1));
+            lengths = subst (λ (a : List ℕ). laws.Filled (λ k. length_at r (pair_row k)) a (l.i + 1)) (sym w.lengths-is)
+                (laws.put_more (λ k. length_at r (pair_row k)) l.lengths l.i c.loop-i-test.true l.invariant.lengths
+                y.length w.in-Some.row l.invariant.measured row (ap (λ (h : Held). h.length) q.1));
+          }
+      | in_default w ↦
+          let row : (pair_row l.i).row ≡ None = sym (ap (λ (x : Pair). x.row) x) ∙ w.in_default.is in
+          record {
+            counted = ap length w.counts-is ∙ l.invariant.counted;
+            measured = ap length w.lengths-is ∙ l.invariant.measured;
+            fine = f;
+            counts = subst (λ (a : List ℕ). laws.Filled (λ k. count_at r (pair_row k)) a (l.i + 1)) (sym w.counts-is)
+                (laws.none_more (λ k. count_at r (pair_row k)) l.counts l.i c.loop-i-test.true l.invariant.counts row);
+            lengths = subst (λ (a : List ℕ). laws.Filled (λ k. length_at r (pair_row k)) a (l.i + 1)) (sym w.lengths-is)
+                (laws.none_more (λ k. length_at r (pair_row k)) l.lengths l.i c.loop-i-test.true l.invariant.lengths row);
+          }
+    ]
 
 pub returns : goal.returns
 unfolding counts_of lengths_of
-returns c = let l = c.loop-i in
+returns c =
     let r = c.args.r.now in
-    let f = l.invariant.3 ∙ rows_end (pair_tests r) pairs (pair 0 I4 0) l.i 26 (omega arith) c.loop-i-test.false in
-    let a = laws.filled_is (λ (j : ℕ). count_at r (pair_row j)) l.counts l.i l.invariant.1 c.loop-i-test.false l.invariant.4 in
-    let b = laws.filled_is (λ (j : ℕ). length_at r (pair_row j)) l.lengths l.i l.invariant.2 c.loop-i-test.false l.invariant.5 in
-    record { is = ap₂ (λ (c d : List ℕ). record { verdict = Fine; counts = c; lengths = d }) a b ∙ sym (ap (λ (v : Verdict). named_by v r) f) }
+    let l = c.loop-i in
+    let i : l.i ≡ 26 = omega (arith, l.auto.i-end, c.loop-i-test.false) in
+    let a = laws.filled_is (λ (j : ℕ). count_at r (pair_row j)) l.counts l.invariant.counted
+    (subst (laws.Filled (λ j. count_at r (pair_row j)) l.counts) i l.invariant.counts) in
+    let b = laws.filled_is (λ (j : ℕ). length_at r (pair_row j)) l.lengths l.invariant.measured
+    (subst (laws.Filled (λ j. length_at r (pair_row j)) l.lengths) i l.invariant.lengths) in
+    ap₂ (λ (c d : List ℕ). Ok (record { counts = c; lengths = d })) a b
+    ∙ named_fine _ (l.invariant.fine ∙ rows_end (pair_tests r) pairs (pair 0 I4 (Some 0)) l.i 26 (omega arith) c.loop-i-test.false)

@@ -1,28 +1,25 @@
 -- Tests that all hold find nothing; else a fault of the header is the answer, and where there is none, the body is judged: the definition's two cases.
-use mathlib.Core.Path.{◌≡◌, sym, ap₂, ◌∙◌, subst}
+use Rattle.std.proofs.Common.{◌≡◌, true, sym, rules}
 use Rattle.words.specs.Tests.{both_of}
-use Rattle.verdicts.specs.declared.Verdict.{Verdict}
-use Rattle.verdicts.specs.declared.Verdict.TheVariants.{Fine}
-use Rattle.verdicts.proofs.TestLaws.{not_fine}
+use Rattle.verdicts.specs.Tests.{all_hold}
+use Rattle.headers.specs.Header.{header_tests}
+use Rattle.image.specs.Image.{line_tests}
 use Rattle.lines.specs.View.{found_in}
-use Rattle.lines.proofs.ViewLaws as laws
 use Rattle.lines.proofs.FoundLaws as found
 use Rattle.lines.proofs.found.Goals as goal
 
-pub returns-then-fine : goal.returns-then-fine
-returns-then-fine c =
+pub returns-then-line_there : goal.returns-then-line_there
+returns-then-line_there c =
     let args = c.args in
-    let e = c.both-fine.ensures ∙ ap₂ both_of c.header_there.ensures c.line_there.ensures in
-    sym (found.found_fine args.p args.k args.d args.r.now c.requires.0 (sym e ∙ c.if-fine.true))
+    let head = all_hold (header_tests args.d.ordinal args.d.codes args.d.length args.r.now) in
+    let both : both_of head (all_hold (line_tests args.p.w args.k args.r.now)) ≡ true = search rules in
+    sym (found.found_fine args.p args.k args.d args.r.now c.requires.0 both)
 
-pub returns-in_default : goal.returns-in_default
+pub returns-in_err-header : goal.returns-in_err-header
 unfolding found_in
-returns-in_default c = c.header-h.ensures
-    ∙ sym (laws.then_fault _ _ (subst (λ (v : Verdict). v ≡ Fine → ⊥) c.header-h.ensures (not_fine c.in_default.is)))
+returns-in_err-header c = search rules
 
 pub returns : goal.returns
+unfolding found_in
 returns c =
-    let args = c.args in
-    let pre = c.requires in
-    let header = c.header-h in
-    c.line.ensures ∙ sym (found.found_body args.p args.k args.d args.r.now pre.0 (sym header.ensures ∙ c.in-Fine.is))
+    let body = found.body_is c.args.p c.args.k c.args.d c.args.r.now c.requires.0 in search rules

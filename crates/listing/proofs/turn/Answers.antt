@@ -15,25 +15,25 @@ pub returns-in-Wait : goal.returns-in-Wait
 returns-in-Wait c =
     let args = c.args in
     laws.told_say args.st args.held.now args.closed _ (sym c.too_long.ensures
-    ∙ c.if-too_long.false) c.step-w.ensures _ _
+    ∙ c.if-too_long.false) c.step-walked.ensures _ _
     c.in-Wait.is (ap Want c.want.ensures)
 
 pub returns-in-Pause : goal.returns-in-Pause
 returns-in-Pause c =
     let args = c.args in
     laws.told_say args.st args.held.now args.closed _ (sym c.too_long.ensures
-    ∙ c.if-too_long.false) c.step-w.ensures _ _ c.in-Pause.is
+    ∙ c.if-too_long.false) c.step-walked.ensures _ _ c.in-Pause.is
     (ap Next c.passed_row.ensures)
 
 pub returns-in-Complete : goal.returns-in-Complete
 returns-in-Complete c =
     let args = c.args in
     laws.told_say args.st args.held.now args.closed _ (sym c.too_long.ensures
-    ∙ c.if-too_long.false) c.step-w.ensures _ _ c.in-Complete.is
-    (ap (λ (n : ℕ). Last (Complete c.step-w.result.state.passed n)) c.start.ensures)
+    ∙ c.if-too_long.false) c.step-walked.ensures _ _ c.in-Complete.is
+    (ap (λ (n : ℕ). Last (Complete c.step-walked.result.state.passed n)) c.start.ensures)
 
 pub returns-in-Refused : goal.returns-in-Refused
 returns-in-Refused c =
     let args = c.args in
     laws.told_say args.st args.held.now args.closed _ (sym c.too_long.ensures
-    ∙ c.if-too_long.false) c.step-w.ensures _ _ c.in-Refused.is refl
+    ∙ c.if-too_long.false) c.step-walked.ensures _ _ c.in-Refused.is refl

@@ -17,6 +17,6 @@ returns c =
     let e : length a.p.counts ≡ rows = search rules in
     let s = c.spot_of-s.ensures in
     record {
-      value = rw (c.codes_of-codes.ensures, s.value);
+      value = rw (c.codes_of.ensures, s.value);
       placed = record { ordinal = omega (arith, total_small a.kind a.p e c.requires.small); length = s.spotted.length; start = s.spotted.start };
     }

@@ -1,15 +1,28 @@
--- One for the first record and the sum of the runs.
-use Prim.Native.Nat.{ℕ, ◌+◌, ◌≤◌}
-use mathlib.Core.Path.{sym, ap, ◌∙◌, subst}
-use mathlib.Core.List.{List}
+-- One for the first record and the sum of the runs, which is the library's.
+use Prim.Native.Nat.{ℕ, ◌+◌}
+use mathlib.Core.Path.{◌≡◌, ap, ◌∙◌}
 use native.Mathlib.Omega.{arith}
-use lib.ListN.{get_or}
-use Rattle.plan.specs.Plan.{total_of, sum_of}
+use lib.ListN.{length}
+use borrow.Author.Rules.{rules}
+use Rattle.plan.specs.Tables.{rows}
+use Rattle.plan.proofs.Bounds.{total_small}
+use Rattle.plan.proofs.RunLaws.{total_is}
 use Rattle.plan.proofs.total.Goals as goal
 
 pub sum-requires : goal.sum-requires
-sum-requires c = λ i k. subst (λ (l : List ℕ). get_or l i 0 ≤ 999999) (sym c.runs_of-r.ensures.0) (c.requires.few i k)
+sum-requires c =
+    let e : length c.args.p.counts ≡ rows = search rules in
+    let s = total_is c.args.kind c.args.p _ c.runs_of.ensures.0 in
+    omega (arith, s, total_small c.args.kind c.args.p e c.requires)
+
+pub overflow_add-result : goal.overflow_add-result
+overflow_add-result c =
+    let e : length c.args.p.counts ≡ rows = search rules in
+    let s = total_is c.args.kind c.args.p _ c.runs_of.ensures.0 in
+    omega (arith, s, c.sum.ensures, total_small c.args.kind c.args.p e c.requires)
 
 pub returns : goal.returns
-unfolding total_of
-returns c = (ap (λ (n : ℕ). 1 + n) (c.sum.ensures.value ∙ ap sum_of c.runs_of-r.ensures.0), omega arith)
+returns c =
+    let e : length c.args.p.counts ≡ rows = search rules in
+    let s = ap (λ (n : ℕ). 1 + n) c.sum.ensures ∙ total_is c.args.kind c.args.p _ c.runs_of.ensures.0 in
+    (s, omega (arith, s, total_small c.args.kind c.args.p e c.requires))

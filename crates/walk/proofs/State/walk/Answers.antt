@@ -10,12 +10,13 @@ use Rattle.turns.specs.declared.Stop.{Stop}
 use Rattle.walk.specs.Walk.{walk_of, more, stopped}
 use Rattle.walk.specs.State.{good_state}
 use Rattle.plan.specs.declared.Due.{Due}
-use lib.ListN.{length}
+use Rattle.plan.specs.declared.Plan.{Plan}
+use Rattle.plan.specs.Plan.{records_most}
+use Rattle.std.proofs.lemmas.Result.{IfOk-at_ok}
 use native.Mathlib.Nat.{sub-zero}
 use native.Mathlib.Omega.{arith}
-use mathlib.Core.Bool.{true}
 use mathlib.Core.Path.{sym, ap, ◌∙◌}
-use Prim.Native.Nat.{ℕ, ◌+◌, ◌-◌, ◌*◌}
+use Prim.Native.Nat.{ℕ, ◌+◌, ◌*◌, ◌≤◌}
 use Rattle.walk.proofs.State.walk.Goals as goal
 
 pub returns-then-not-good : goal.returns-then-not-good
@@ -41,26 +42,24 @@ due_of-due-requires c =
     let r = good-laws.ready c.loop-n.st c.loop-n.invariant.2 in
     record { small = r.small; k_bound = r.within }
 
-pub judge-judged-requires : goal.judge-judged-requires
-judge-judged-requires c =
+pub judge-requires : goal.judge-requires
+judge-requires c =
     record {
       small = (good-laws.ready c.loop-n.st c.loop-n.invariant.2).small;
       k_bound = ((good-laws.ready c.loop-n.st c.loop-n.invariant.2).within, c.due_of-due.ensures.placed);
     }
 
-pub returns-in-Halt : goal.returns-in-Halt
-returns-in-Halt c = let l = c.loop-n in
+pub returns-in-Err : goal.returns-in-Err
+returns-in-Err c = let l = c.loop-n in
     let a = c.args in
-    let t = sym (turn-laws.turn_is l.st (rest a.bytes.now l.at) a.closed c.due_of-due.ensures.value
-    c.judge-judged.ensures.value) ∙ c.in-Halt.is in
+    let t = turn-laws.halts l.st (rest a.bytes.now l.at) a.closed c.due_of-due.ensures.value c.judge.ensures.value c.in-Err.is in
     sym (l.invariant.3 ∙ laws.turn_halt a.budget l.n l.at l.st a.bytes.now a.closed _
     c.loop-n-test.true l.invariant.2 t)
 
 pub overflow_add-at : goal.overflow_add-at
 overflow_add-at c = let l = c.loop-n in
     let a = c.args in
-    let t = sym (turn-laws.turn_is l.st (rest a.bytes.now l.at) a.closed c.due_of-due.ensures.value
-    c.judge-judged.ensures.value) ∙ c.in_default.is in
+    let t = turn-laws.passes l.st (rest a.bytes.now l.at) a.closed c.due_of-due.ensures.value c.judge.ensures.value c.in-Ok.is in
     omega (
       arith,
       laws.pass_room a.budget l.n l.at l.st a.bytes.now a.closed c.due_of-due.result.length
@@ -68,7 +67,7 @@ overflow_add-at c = let l = c.loop-n in
     )
 
 pub next-st-requires : goal.next-st-requires
-next-st-requires c = omega (arith, c.judge-judged.ensures.k_le_records_most c.in_default.is)
+next-st-requires c = omega (arith, IfOk-at_ok (λ (q : Plan). c.loop-n.st.passed ≤ records_most) c.in-Ok.is c.judge.ensures.k_le_records_most)
 
 pub overflow_add-n : goal.overflow_add-n
 overflow_add-n c = omega (
@@ -80,16 +79,14 @@ overflow_add-n c = omega (
 pub slice_bounds-ahead-count : goal.slice_bounds-ahead-count
 slice_bounds-ahead-count c = let l = c.loop-n in
     let a = c.args in
-    let t = sym (turn-laws.turn_is l.st (rest a.bytes.now l.at) a.closed c.due_of-due.ensures.value
-    c.judge-judged.ensures.value) ∙ c.in_default.is in
+    let t = turn-laws.passes l.st (rest a.bytes.now l.at) a.closed c.due_of-due.ensures.value c.judge.ensures.value c.in-Ok.is in
     laws.pass_room a.budget l.n l.at l.st a.bytes.now a.closed c.due_of-due.result.length
     l.invariant.0 t (ap (λ (x : Due). x.length) c.due_of-due.ensures.value)
 
 pub slice_bounds-ahead-start : goal.slice_bounds-ahead-start
 slice_bounds-ahead-start c = let l = c.loop-n in
     let a = c.args in
-    let t = sym (turn-laws.turn_is l.st (rest a.bytes.now l.at) a.closed c.due_of-due.ensures.value
-    c.judge-judged.ensures.value) ∙ c.in_default.is in
+    let t = turn-laws.passes l.st (rest a.bytes.now l.at) a.closed c.due_of-due.ensures.value c.judge.ensures.value c.in-Ok.is in
     omega (
       arith,
       laws.pass_room a.budget l.n l.at l.st a.bytes.now a.closed
@@ -100,20 +97,16 @@ slice_bounds-ahead-start c = let l = c.loop-n in
 pub ahead-c-requires : goal.ahead-c-requires
 ahead-c-requires c = let l = c.loop-n in
     let a = c.args in
-    let t = sym (turn-laws.turn_is l.st (rest a.bytes.now l.at) a.closed
-    c.due_of-due.ensures.value c.judge-judged.ensures.value)
-    ∙ c.in_default.is in
+    let t = turn-laws.passes l.st (rest a.bytes.now l.at) a.closed c.due_of-due.ensures.value c.judge.ensures.value c.in-Ok.is in
     ap good_state (c.next-st.ensures
     ∙ turn-laws.next_is l.st (rest a.bytes.now l.at) a.closed c.due_of-due.ensures.value
-    c.judge-judged.ensures.value c.in_default.is)
+    c.judge.ensures.value c.in-Ok.is)
     ∙ turn-laws.good_next l.st _ a.closed l.invariant.2 t
 
 pub overflow_mul-at : goal.overflow_mul-at
 overflow_mul-at c = let l = c.loop-n in
     let a = c.args in
-    let t = sym (turn-laws.turn_is l.st (rest a.bytes.now l.at) a.closed
-    c.due_of-due.ensures.value
-    c.judge-judged.ensures.value) ∙ c.in_default.is in
+    let t = turn-laws.passes l.st (rest a.bytes.now l.at) a.closed c.due_of-due.ensures.value c.judge.ensures.value c.in-Ok.is in
     let h = laws.pass_room a.budget l.n l.at l.st a.bytes.now a.closed
     c.due_of-due.result.length l.invariant.0 t
     (ap (λ (x : Due). x.length) c.due_of-due.ensures.value) in
@@ -128,9 +121,7 @@ overflow_mul-at c = let l = c.loop-n in
 pub overflow_add-at-in-loop-n : goal.overflow_add-at-in-loop-n
 overflow_add-at-in-loop-n c = let l = c.loop-n in
     let a = c.args in
-    let t = sym (turn-laws.turn_is l.st (rest a.bytes.now l.at) a.closed
-    c.due_of-due.ensures.value
-    c.judge-judged.ensures.value) ∙ c.in_default.is in
+    let t = turn-laws.passes l.st (rest a.bytes.now l.at) a.closed c.due_of-due.ensures.value c.judge.ensures.value c.in-Ok.is in
     let h = laws.pass_room a.budget l.n l.at l.st a.bytes.now a.closed
     c.due_of-due.result.length l.invariant.0 t
     (ap (λ (x : Due). x.length) c.due_of-due.ensures.value) in
@@ -150,8 +141,7 @@ overflow_add-st c = let l = c.loop-n in
       arith,
       e,
       c.ahead-c.ensures.small,
-      c.judge-judged.ensures.k_le_records_most
-          c.in_default.is,
+      IfOk-at_ok (λ (q : Plan). c.loop-n.st.passed ≤ records_most) c.in-Ok.is c.judge.ensures.k_le_records_most,
     )
 
 pub overflow_add-n-in-loop-n : goal.overflow_add-n-in-loop-n
@@ -172,9 +162,7 @@ loop-n-smaller c = omega (
 pub loop-n-preserved : goal.loop-n-preserved
 loop-n-preserved c = let l = c.loop-n in
     let a = c.args in
-    let t = sym (turn-laws.turn_is l.st (rest a.bytes.now l.at) a.closed
-    c.due_of-due.ensures.value
-    c.judge-judged.ensures.value) ∙ c.in_default.is in
+    let t = turn-laws.passes l.st (rest a.bytes.now l.at) a.closed c.due_of-due.ensures.value c.judge.ensures.value c.in-Ok.is in
     let e = ap (λ (x : Due). x.length) c.due_of-due.ensures.value in
     let h = laws.pass_room a.budget l.n l.at l.st a.bytes.now a.closed
     c.due_of-due.result.length l.invariant.0 t e in (
@@ -192,7 +180,7 @@ loop-n-preserved c = let l = c.loop-n in
           (c.next-st.ensures
           ∙ turn-laws.next_is l.st (rest a.bytes.now l.at) a.closed
           c.due_of-due.ensures.value
-          c.judge-judged.ensures.value c.in_default.is)
+          c.judge.ensures.value c.in-Ok.is)
           ∙ turn_ahead a.budget (l.n + 1) (l.at + c.due_of-due.result.length)
           c.ahead-c.result c.next-st.result a.bytes.now a.closed
           (omega (arith, c.loop-n-test.true))

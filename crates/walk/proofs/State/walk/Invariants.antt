@@ -1,7 +1,5 @@
 -- What is left of the walk from the state reached, behind the records passed, is the whole walk: the loop's invariant. A bad state is answered before the
 -- loop, a passed record leaves a good one, and lines that pass one after the other are as many turns.
-use Rattle.walk.proofs.TurnLaws as turn-laws
-use Rattle.walk.proofs.GoodLaws as good-laws
 use Rattle.walk.specs.Walk.{walk_of, more}
 use Rattle.walk.specs.State.{good_state}
 use lib.ListN.{length, drop}

@@ -1,7 +1,0 @@
--- The descriptor's answer laid into a plan of zeros.
-use mathlib.Core.Path.{ap₂, ◌∙◌}
-use Rattle.bodies.proofs.FoundLaws as laws
-use Rattle.bodies.proofs.of_volume.Goals as goal
-
-pub returns : goal.returns
-returns c = ap₂ laws.volume_in c.zero-plan.ensures c.descriptor-x.ensures ∙ laws.volume_found c.args.r.now

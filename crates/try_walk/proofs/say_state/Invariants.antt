@@ -1,9 +1,0 @@
--- The count of numbers still to print falls.
-use Prim.Native.Nat.{◌-◌, ◌≤◌}
-use Rattle.try_walk.proofs.say_state.Given as goal
-
-abbrev pub invariant-loop-i : goal.invariant-loop-i
-invariant-loop-i l = l.i ≤ 43
-
-abbrev pub decreases-loop-i : goal.decreases-loop-i
-decreases-loop-i l = 43 - l.i
