@@ -36,6 +36,7 @@ fn number(bytes: &[u8], at: usize) -> u32
 }
 
 // The same of numbers that have all come, each read without a test.
+// kept: beside `write_short`, which reads a number otherwise; a closure for that needs more clauses than this loop has lines.
 fn write(bytes: &[u8], start: usize, count: usize, row: &mut [u32])
     requires { (start + 4 * count ≤ length bytes.now) × (count ≤ length row.old) }
     ensures { row.new ≡ fours bytes.now start count ++ drop count row.old }
