@@ -14,3 +14,5 @@ pub mod Either
 pub mod Viewed
 pub mod Asked
 pub mod SetChecked
+-- a field's verdict by number and place, whatever record its refusal names
+pub mod FieldFaults

@@ -17,10 +17,10 @@ use fields::Field;
 use std::fmt;
 use try_commands::{Numbers, Refused, part};
 
-// How many bytes of a record are held.
 // How many bytes of commands are read.
 const READ: u64 = 65536;
 
+// How many bytes of a record are held.
 const HELD: usize = 4096;
 
 fn form_of(code: u64) -> Form {
