@@ -44,7 +44,7 @@ pub fn header_there(ordinal: u64, c: Codes, long: u64, b: &[u8]) -> bool
     requires { 12 ≤ length b.now }
     ensures { result ≡ all_hold (header_tests ordinal c long b.now) }
 {
-    let number = words::four_there(b, 0);
-    let length = words::four_there(b, 8);
-    number == ordinal && codes_are(b, c) && length == long
+    let number = words::is(words::four_there(b, 0), ordinal);
+    let length = words::is(words::four_there(b, 8), long);
+    words::both(number, words::both(codes_are(b, c), length))
 }

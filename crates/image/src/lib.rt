@@ -152,10 +152,11 @@ pub fn line_there(w: u64, k: u64, r: &[u8]) -> bool
     requires { 32 ≤ length r.now }
     ensures { result ≡ all_hold (line_tests w k r.now) }
 {
-    let number = words::four_there(r, words::place(13));
-    let index = words::four_there(r, words::place(17));
+    let number = words::is(words::four_there(r, words::place(13)), k);
+    let index = words::is(words::four_there(r, words::place(17)), 1);
     let left = words::four_there(r, words::place(21));
     let data = words::four_there(r, words::place(25));
     let right = words::four_there(r, words::place(29));
-    number == k && index == 1 && left + data + right == w
+    let fills = words::is(left + data + right, w);
+    words::both(number, words::both(index, fills))
 }

@@ -45,7 +45,11 @@ fn found(p: Plan, k: u64, d: Due, r: &[u8]) -> Verdict
     requires { (d.run ≡ 1) × (32 ≤ length r.now) }
     ensures { result ≡ found_in p k d r.now }
 {
-    if headers::header_there(d.ordinal, d.codes, d.length, r) && image::line_there(p.w, k, r) {
+    let fine = words::both(
+        headers::header_there(d.ordinal, d.codes, d.length, r),
+        image::line_there(p.w, k, r),
+    );
+    if fine {
         return Ok(());
     }
     headers::header(d.ordinal, d.codes, d.length, r)?;

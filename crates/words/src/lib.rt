@@ -125,5 +125,5 @@ pub fn is(x: u64, y: u64) -> bool
 pub fn within(lo: u64, x: u64, hi: u64) -> bool
     ensures { result ≡ within_of lo x hi }
 {
-    lo <= x && x <= hi
+    both(lo <= x, x <= hi)
 }

@@ -1,19 +1,16 @@
 -- Tests that all hold find nothing; else a fault of the header is the answer, and where there is none, the body is judged: the definition's two cases.
-use Rattle.std.proofs.Common.{◌≡◌, true, sym, rules}
+use mathlib.Core.Path.{sym, ap₂, ◌∙◌}
+use Rattle.std.proofs.Common.{rules}
 use Rattle.words.specs.Tests.{both_of}
-use Rattle.verdicts.specs.Tests.{all_hold}
-use Rattle.headers.specs.Header.{header_tests}
-use Rattle.image.specs.Image.{line_tests}
 use Rattle.lines.specs.View.{found_in}
 use Rattle.lines.proofs.FoundLaws as found
 use Rattle.lines.proofs.found.Goals as goal
 
-pub returns-then-line_there : goal.returns-then-line_there
-returns-then-line_there c =
+pub returns-then-fine : goal.returns-then-fine
+returns-then-fine c =
     let args = c.args in
-    let head = all_hold (header_tests args.d.ordinal args.d.codes args.d.length args.r.now) in
-    let both : both_of head (all_hold (line_tests args.p.w args.k args.r.now)) ≡ true = search rules in
-    sym (found.found_fine args.p args.k args.d args.r.now c.requires.0 both)
+    let e = c.both-fine.ensures ∙ ap₂ both_of c.header_there.ensures c.line_there.ensures in
+    sym (found.found_fine args.p args.k args.d args.r.now c.requires.0 (sym e ∙ c.if-fine.true))
 
 pub returns-in_err-header : goal.returns-in_err-header
 unfolding found_in
