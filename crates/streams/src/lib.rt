@@ -2,6 +2,8 @@
 // prints what it says. No contract can say what a stream gives: what is promised here is that it ends.
 #![tactic(auto)]
 
+ghost use Rattle.std.specs.Prelude.{◌≡◌, ◌≤◌, length, drop};
+
 use listing::Say;
 use rows::Row;
 use std::fmt;
@@ -9,7 +11,7 @@ use std::io::{Read, Write};
 use walk::State;
 
 // Room for one record, the longest that a turn holds.
-const RECORD: usize = 32768;
+pub const RECORD: usize = 32768;
 
 // Where the listing stands: the state, how many bytes of the next record are held, and whether the input
 // has ended.
@@ -30,8 +32,8 @@ enum Failed {
 impl fmt::Display for Failed {
     fn fmt<W: fmt::Write>(&self, f: &mut fmt::Formatter<W>) -> fmt::Result {
         f.write_str(match self {
-            Failed::Read => "read failed",
-            Failed::Write => "write failed",
+            Failed::Read => "read",
+            Failed::Write => "write",
         })
     }
 }
@@ -87,15 +89,18 @@ impl Going {
 
 // The turns, to the last row. A proved loop has to end, so they are counted up to a number that no run
 // reaches.
-fn list_rows<R: Read, W: Write>(input: &mut R, output: &mut W) -> Result<(), Failed> {
-    let mut buffer = [0; RECORD];
+fn list_rows<R: Read, W: Write>(
+    buffer: &mut [u8],
+    input: &mut R,
+    output: &mut W,
+) -> Result<(), Failed> {
     let mut going = Going {
         state: listing::begin(),
         held: 0,
         closed: false,
     };
     for _ in 0..u64::MAX {
-        match going.advance(&mut buffer, input, output)? {
+        match going.advance(buffer, input, output)? {
             Some(next) => going = next,
             None => break,
         }
@@ -104,10 +109,27 @@ fn list_rows<R: Read, W: Write>(input: &mut R, output: &mut W) -> Result<(), Fai
 }
 
 // Lists the image that the input gives, as a stream: a row is printed as soon as its record has passed,
-// where neither stream keeps a buffer (std's own keep none). What fails is said where errors go; where
-// that fails too, there is nobody to tell.
+// where neither stream keeps a buffer (std's own keep none). What fails is said where errors go, in three
+// writes, each tried whatever became of the one before; where they fail too, there is nobody to tell.
 pub fn list<R: Read, W: Write, E: Write>(input: &mut R, output: &mut W, errors: &mut E) {
-    if let Err(failed) = list_rows(input, output) {
-        let _ = writeln!(errors, "ceoslist: {failed}");
+    let mut room = [0; RECORD];
+    list_in(&mut room, input, output, errors);
+}
+
+// The same in room for one record that is lent, so that who lists often clears it once. What lies behind a
+// record's room stays.
+pub fn list_in<R: Read, W: Write, E: Write>(
+    room: &mut [u8],
+    input: &mut R,
+    output: &mut W,
+    errors: &mut E,
+)
+    requires { 32768 ≤ length room.old }
+    ensures { drop 32768 room.new ≡ drop 32768 room.old }
+{
+    if let Err(failed) = list_rows(&mut room[..RECORD], input, output) {
+        let _ = errors.write_all(b"ceoslist: ");
+        let _ = write!(errors, "{failed}");
+        let _ = errors.write_all(b" failed\n");
     }
 }
