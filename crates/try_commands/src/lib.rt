@@ -7,7 +7,7 @@ ghost use Rattle.std.specs.Prelude.{◌≤◌, length};
 ghost use Rattle.std.specs.Iterator.{at_most};
 
 use std::fmt;
-use std::io::{BufRead, BufReader, Input, Read};
+use std::io::{Input, Read};
 use words::Refusal;
 
 // What a command line holds behind its operation's byte. Each number stands behind one byte, a blank or
@@ -63,8 +63,9 @@ fn take_number(text: &[u8]) -> (u64, &[u8])
 }
 
 // The text is put into the buffer from a place on, as far as it reaches.
-fn put(held: &mut [u8], at: usize, text: &[u8]) {
-    for (to, from) in held.iter_mut().skip(at).zip(text) {
+pub fn put(held: &mut [u8], at: usize, text: &[u8]) {
+    let at = at.min(held.len());
+    for (to, from) in held[at..].iter_mut().zip(text) {
         *to = *from;
     }
 }
@@ -72,7 +73,7 @@ fn put(held: &mut [u8], at: usize, text: &[u8]) {
 // The commands that change the bytes held: `c VALUE` all of them, `p BYTE:TEXT` a text from byte BYTE
 // (from 1) on, `b BYTE VALUE` one byte, `q BYTE VALUE` a four-byte number, high byte first. Any other
 // operation changes nothing.
-fn change(op: u8, mut numbers: Numbers<'_>, held: &mut [u8]) {
+pub fn change(op: u8, mut numbers: Numbers<'_>, held: &mut [u8]) {
     let first = numbers.number();
     let at = words::place((first as usize).min(held.len()));
     match op {
@@ -90,31 +91,44 @@ pub fn part(held: &[u8], from: u64, long: u64) -> &[u8] {
     &rest[..(long as usize).min(rest.len())]
 }
 
-// Runs the commands of standard input, one to a line, of which at most so many bytes are read, over so many
-// bytes held: `# TEXT` is printed as it stands, c, p, b and q change the bytes held, and any other
-// operation is answered by `ask`.
-pub fn run<R, F>(rt: &R, most: u64, held: usize, mut ask: F) -> std::io::Result<()>
+// The bytes that come, as many as there is room for; where reading fails, those that had come.
+fn read_all<R: Read>(reader: &mut R, room: &mut [u8]) -> usize
+    ensures { result ≤ length room.old }
+{
+    let mut filled = 0;
+    for _ in 0..room.len() {
+        match reader.read(&mut room[filled..]) {
+            Ok(got) if got > 0 => filled += got,
+            _ => break,
+        }
+    }
+    filled
+}
+
+// Runs the commands of standard input, one to a line, in lent room: all that come and have room are read
+// before the first is done. `# TEXT` is printed as it stands, c, p, b and q change the bytes held, and any
+// other operation is answered by `ask`. What could not be written is told to nobody, and the next command is
+// done all the same.
+pub fn run<R, F>(rt: &R, room: &mut [u8], held: &mut [u8], mut ask: F)
 where
-    R: AllocGlobal + Input + Print,
+    R: Input + Print,
     F: FnMut(u8, Numbers<'_>, &[u8]) -> std::io::Result<()>,
     requires { F.IsAlwaysCallable ask }
 {
-    let mut bytes = vec![in rt.alloc(); 0u8; held]?;
-    for line in BufReader::new(rt.alloc(), rt.reader().take(most))?.split(rt.alloc(), b'\n') {
-        let line = line?;
+    let filled = read_all(&mut rt.reader(), room);
+    for line in room[..filled].split(|&byte| byte == b'\n') {
         let Some((&op, rest)) = line.split_first() else {
             continue;
         };
         if op == b'#' {
-            rt.write_all(&line)?;
-            rt.write_all(b"\n")?;
+            let _ = rt.write_all(line);
+            let _ = rt.write_all(b"\n");
         } else {
             let numbers = Numbers { rest };
-            change(op, numbers, &mut bytes);
-            ask(op, numbers, &bytes)?;
+            change(op, numbers, held);
+            let _ = ask(op, numbers, held);
         }
     }
-    Ok(())
 }
 
 // A refusal as the programs print it.

@@ -15,7 +15,7 @@ use std::fmt;
 use try_commands::{Numbers, Refused, part};
 
 // How many bytes of commands are read.
-const READ: u64 = 262144;
+const READ: usize = 262144;
 
 // How many bytes are held.
 const HELD: usize = 65536;
@@ -75,35 +75,53 @@ fn check<P: Print>(rt: &P, directory: &[u8], counts: &[u64]) -> std::io::Result<
     }
 }
 
+// The row that a command names. It stands in a function of its own, as the counts do: a function clears its
+// arrays whenever it is called.
+fn copy_lent<P: Print>(rt: &P, bytes: &[u8], mut numbers: Numbers<'_>) -> std::io::Result<()> {
+    let line = numbers.number();
+    let many = (numbers.number() as usize).min(SAMPLES);
+    let mut row = [(numbers.number() & 0xffff) as u16; SAMPLES];
+    copy(rt, bytes, line, &mut row[..many])
+}
+
+// The numbers that are left, as many as there is room for: how many they are.
+fn counts_of(numbers: Numbers<'_>, counts: &mut [u64]) -> usize {
+    let mut many = 0;
+    for number in numbers {
+        let Some(count) = counts.get_mut(many) else {
+            break;
+        };
+        *count = number;
+        many += 1;
+    }
+    many
+}
+
+fn check_counts<P: Print>(rt: &P, directory: &[u8], numbers: Numbers<'_>) -> std::io::Result<()> {
+    let mut counts = [0; COUNTS];
+    let many = counts_of(numbers, &mut counts);
+    check(rt, directory, &counts[..many.min(COUNTS)])
+}
+
 // The commands that ask something of the first bytes held.
-fn ask<R: AllocGlobal + Print>(
-    rt: &R,
-    op: u8,
-    mut numbers: Numbers<'_>,
-    held: &[u8],
-) -> std::io::Result<()> {
+fn ask<P: Print>(rt: &P, op: u8, mut numbers: Numbers<'_>, held: &[u8]) -> std::io::Result<()> {
     let bytes = part(held, 0, numbers.number());
     match op {
         b'l' => view(rt, bytes, numbers.number()),
-        b'r' => {
-            let line = numbers.number();
-            let many = (numbers.number() as usize).min(SAMPLES);
-            let mut row = [(numbers.number() & 0xffff) as u16; SAMPLES];
-            copy(rt, bytes, line, &mut row[..many])
-        }
-        b's' => {
-            let counts: Vec<u64> = numbers.take(COUNTS).collect(rt.alloc())?;
-            check(rt, bytes, &counts)
-        }
+        b'r' => copy_lent(rt, bytes, numbers),
+        b's' => check_counts(rt, bytes, numbers),
         _ => Ok(()),
     }
 }
 
-fn main(rt: HostRuntime) -> std::io::Result<()> {
+// What could not be read or written is told to nobody, and the exit status is 0: the stored answers tell.
+fn main(rt: HostRuntime) {
+    let mut input = [0; READ];
+    let mut bytes = [0; HELD];
     try_commands::run(
         &rt,
-        READ,
-        HELD,
+        &mut input,
+        &mut bytes,
         |op, numbers, held| ask(&rt, op, numbers, held),
-    )
+    );
 }

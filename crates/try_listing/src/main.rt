@@ -4,14 +4,14 @@
 //   # TEXT           is printed as it stands
 //   c, p, b, q       change the bytes held (try_commands::run)
 //   l LENGTH PIECE   the listing of the first LENGTH bytes, as if they arrived in pieces of at most PIECE
-//                    bytes (streams::list)
+//                    bytes (streams::list_in)
 #![tactic(auto)]
 
 use std::io::{Read, sink, writer};
 use try_commands::{Numbers, part};
 
 // How many bytes of commands are read.
-const READ: u64 = 262144;
+const READ: usize = 262144;
 
 // How many bytes are held.
 const HELD: usize = 65536;
@@ -30,20 +30,35 @@ impl Read for Pieces<'_> {
     }
 }
 
-fn ask<P: Print>(rt: &P, op: u8, mut numbers: Numbers<'_>, held: &[u8]) -> std::io::Result<()> {
+fn ask<P: Print>(
+    rt: &P,
+    room: &mut [u8; streams::RECORD],
+    op: u8,
+    mut numbers: Numbers<'_>,
+    held: &[u8],
+) -> std::io::Result<()> {
     if op == b'l' {
         let left = part(held, 0, numbers.number());
         let piece = numbers.number() as usize;
-        streams::list(&mut Pieces { left, piece }, &mut writer(rt), &mut sink());
+        streams::list_in(
+            room,
+            &mut Pieces { left, piece },
+            &mut writer(rt),
+            &mut sink(),
+        );
     }
     Ok(())
 }
 
-fn main(rt: HostRuntime) -> std::io::Result<()> {
+// What could not be read or written is told to nobody, and the exit status is 0: the stored answers tell.
+fn main(rt: HostRuntime) {
+    let mut input = [0; READ];
+    let mut bytes = [0; HELD];
+    let mut room = [0; streams::RECORD];
     try_commands::run(
         &rt,
-        READ,
-        HELD,
-        |op, numbers, held| ask(&rt, op, numbers, held),
-    )
+        &mut input,
+        &mut bytes,
+        |op, numbers, held| ask(&rt, &mut room, op, numbers, held),
+    );
 }

@@ -18,7 +18,7 @@ use std::fmt;
 use try_commands::{Numbers, Refused, part};
 
 // How many bytes of commands are read.
-const READ: u64 = 65536;
+const READ: usize = 65536;
 
 // How many bytes of a record are held.
 const HELD: usize = 4096;
@@ -87,11 +87,14 @@ fn ask<P: Print>(rt: &P, op: u8, mut numbers: Numbers<'_>, held: &[u8]) -> std::
     }
 }
 
-fn main(rt: HostRuntime) -> std::io::Result<()> {
+// What could not be read or written is told to nobody, and the exit status is 0: the stored answers tell.
+fn main(rt: HostRuntime) {
+    let mut input = [0; READ];
+    let mut bytes = [0; HELD];
     try_commands::run(
         &rt,
-        READ,
-        HELD,
+        &mut input,
+        &mut bytes,
         |op, numbers, held| ask(&rt, op, numbers, held),
-    )
+    );
 }
