@@ -18,7 +18,7 @@ use Rattle.bodies.specs.Named.{plan_of, first_of, found_of}
 use Rattle.volume.specs.Volume.{volume_record}
 use Rattle.leader.specs.Leader.{leader_record}
 use Rattle.image.specs.Image.{image_record}
-use Rattle.verdicts.specs.Tests.{Verdict, first_fault, named_by}
+use Rattle.verdicts.specs.Tests.{Verdict, first_fault, named_by, verdict_of}
 use Rattle.headers.specs.Header.{header_of}
 use Rattle.turns.specs.Turn.{Turn, refused_at, on_fine, judge_of, ended_of, short_of, plan_in, plan_behind, passed_of, judged_of}
 use Rattle.turns.specs.declared.Stop.{Stop}
@@ -135,3 +135,16 @@ module _ (kind : ℕ) (p : Plan) (k : ℕ) (d : Due) (b : List ℕ) (c : Bool) w
           (sym (first_body_lem kind d.run p k (take d.length b) (eqb-true d.run 0 q)))
           ∙ of_found true (body_of kind d.run p k (take d.length b)) (plan_of kind (take d.length b))
       go false q = of_found false (body_of kind d.run p k (take d.length b)) (plan_of kind (take d.length b))
+
+-- the verdict of what is found in a body is the body's, first record or not
+pub found_verdict : (kind run : ℕ) (p : Plan) (k : ℕ) (r : List ℕ) → verdict_of (found_of kind run p k r) ≡ body_of kind run p k r
+unfolding found_of first_of
+found_verdict kind run p k r = go (eqb run 0) refl
+  where
+    named : (v : Verdict) (q : Plan) → verdict_of (named_by v q) ≡ v
+    named (Ok u) q = refl
+    named (Err x) q = refl
+
+    go : (x : Bool) → eqb run 0 ≡ x → verdict_of (pick x (first_of kind r) (named_by (body_of kind run p k r) p)) ≡ body_of kind run p k r
+    go true q = named _ (plan_of kind r) ∙ sym (first_body_lem kind run p k r (eqb-true run 0 q))
+    go false q = named _ p
