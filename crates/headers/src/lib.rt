@@ -14,11 +14,16 @@ use verdicts::Verdict;
 fn codes_are(b: &[u8], c: Codes) -> bool
     ensures { result ≡ codes_are b.now c }
 {
-    let one = words::byte(b, 4);
-    let two = words::byte(b, 5);
-    let three = words::byte(b, 6);
-    let four = words::byte(b, 7);
-    one == c.one && two == c.two && three == c.three && (c.free || four == c.four)
+    let front = words::both(
+        words::is(words::byte(b, 4), c.one),
+        words::is(words::byte(b, 5), c.two),
+    );
+    let third = words::is(words::byte(b, 6), c.three);
+    let fourth = words::is(words::byte(b, 7), c.four);
+    if c.free {
+        return words::both(front, words::both(third, true));
+    }
+    words::both(front, words::both(third, fourth))
 }
 
 // A record's first twelve bytes: sequence number (3), codes (4), length (5).
