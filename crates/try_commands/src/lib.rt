@@ -1,13 +1,17 @@
 // Commands for the programs that run examples: a line is one byte of operation, then numbers and a
 // text, as `f 12 4096` or `d 5:  90.000`. Nothing here is part of the reader; it is proved safe and
-// ending, and what it prints is compared with the stored output.
+// ending, and what the programs print is compared with the stored output, what `run` does with its test's
+// cases.
 #![tactic(auto)]
 
 ghost use Rattle.std.specs.Prelude.{◌≤◌, length};
 ghost use Rattle.std.specs.Iterator.{at_most};
 
+#[cfg(test)]
+mod tests;
+
 use std::fmt;
-use std::io::{Input, Read};
+use std::io::{BufRead, BufReader, Input, Read};
 use words::Refusal;
 
 // What a command line holds behind its operation's byte. Each number stands behind one byte, a blank or
@@ -105,11 +109,38 @@ fn read_all<R: Read>(reader: &mut R, room: &mut [u8]) -> usize
     filled
 }
 
-// Runs the commands of standard input, one to a line, in lent room: all that come and have room are read
-// before the first is done. `# TEXT` is printed as it stands, c, p, b and q change the bytes held, and any
-// other operation is answered by `ask`. What could not be written is told to nobody, and the next command is
-// done all the same.
-pub fn run<R, F>(rt: &R, room: &mut [u8], held: &mut [u8], mut ask: F)
+// Runs the commands of standard input, one to a line, of which at most so many bytes are read, over so many
+// bytes held: `# TEXT` is printed as it stands, and any other operation is answered by `ask`, c, p, b and q
+// once they have changed the bytes held. Each is done before the next line is split off; the bytes and the
+// lines are the heap's, and the first read, write or answer that fails ends it with its error. It stands for
+// callers elsewhere: the programs here call `run_in`.
+pub fn run<R, F>(rt: &R, most: u64, held: usize, mut ask: F) -> std::io::Result<()>
+where
+    R: AllocGlobal + Input + Print,
+    F: FnMut(u8, Numbers<'_>, &[u8]) -> std::io::Result<()>,
+    requires { F.IsAlwaysCallable ask }
+{
+    let mut bytes = vec![in rt.alloc(); 0u8; held]?;
+    for line in BufReader::new(rt.alloc(), rt.reader().take(most))?.split(rt.alloc(), b'\n') {
+        let line = line?;
+        let Some((&op, rest)) = line.split_first() else {
+            continue;
+        };
+        if op == b'#' {
+            rt.write_all(&line)?;
+            rt.write_all(b"\n")?;
+        } else {
+            let numbers = Numbers { rest };
+            change(op, numbers, &mut bytes);
+            ask(op, numbers, &bytes)?;
+        }
+    }
+    Ok(())
+}
+
+// The same in lent room, without a heap: all that come and have room are read before the first is done. What
+// could not be written is told to nobody, and the next command is done all the same.
+pub fn run_in<R, F>(rt: &R, room: &mut [u8], held: &mut [u8], mut ask: F)
 where
     R: Input + Print,
     F: FnMut(u8, Numbers<'_>, &[u8]) -> std::io::Result<()>,

@@ -2,7 +2,7 @@
 // one to a line; tests/examples/lines.py makes them and what is to be answered. The program holds 65,536 bytes.
 //
 //   # TEXT                   is printed as it stands
-//   c, p, b, q               change the bytes held (try_commands::run)
+//   c, p, b, q               change the bytes held (try_commands::run_in)
 //   l LENGTH LINE            the view of a line in the first LENGTH bytes; then of the bytes that the
 //                            caller is handed as its pixels their count and their check number
 //   r LENGTH LINE MANY OLD   the row copy to a row of MANY samples that were all OLD, at most 256; then
@@ -118,7 +118,7 @@ fn ask<P: Print>(rt: &P, op: u8, mut numbers: Numbers<'_>, held: &[u8]) -> std::
 fn main(rt: HostRuntime) {
     let mut input = [0; READ];
     let mut bytes = [0; HELD];
-    try_commands::run(
+    try_commands::run_in(
         &rt,
         &mut input,
         &mut bytes,

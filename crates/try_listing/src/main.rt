@@ -2,7 +2,7 @@
 // makes them and what is to be answered. The program holds 65,536 bytes.
 //
 //   # TEXT           is printed as it stands
-//   c, p, b, q       change the bytes held (try_commands::run)
+//   c, p, b, q       change the bytes held (try_commands::run_in)
 //   l LENGTH PIECE   the listing of the first LENGTH bytes, as if they arrived in pieces of at most PIECE
 //                    bytes (streams::list_in)
 #![tactic(auto)]
@@ -55,7 +55,7 @@ fn main(rt: HostRuntime) {
     let mut input = [0; READ];
     let mut bytes = [0; HELD];
     let mut room = [0; streams::RECORD];
-    try_commands::run(
+    try_commands::run_in(
         &rt,
         &mut input,
         &mut bytes,

@@ -91,7 +91,7 @@ fn ask<P: Print>(rt: &P, op: u8, mut numbers: Numbers<'_>, held: &[u8]) -> std::
 fn main(rt: HostRuntime) {
     let mut input = [0; READ];
     let mut bytes = [0; HELD];
-    try_commands::run(
+    try_commands::run_in(
         &rt,
         &mut input,
         &mut bytes,

@@ -125,7 +125,7 @@ fn main(rt: HostRuntime) {
     let mut input = [0; READ];
     let mut bytes = [0; HELD];
     let mut state = State::none();
-    try_commands::run(&rt, &mut input, &mut bytes, |op, numbers, held| {
+    try_commands::run_in(&rt, &mut input, &mut bytes, |op, numbers, held| {
         ask(&rt, &mut state, op, numbers, held)
     });
 }
